@@ -1,0 +1,26 @@
+-- Laws on plain numbers, Bools and floats that the proofs share.
+pub mod Bias
+pub mod Compare
+pub mod Dyadic
+pub mod DyadicFloor
+pub mod DyadicWhole
+pub mod Examples
+pub mod Floor
+pub mod FloorIeee
+pub mod Integers
+pub mod Patterns
+pub mod Picks
+pub mod RootBits
+pub mod RootCases
+pub mod RootChecked
+pub mod RootCore
+pub mod RootLoop
+pub mod RootNearest
+pub mod RootOrder
+pub mod RootScaled
+pub mod Squares
+pub mod Thresholds
+pub mod Tools
+pub mod YardCells
+pub mod YardLaws
+pub mod YardTests

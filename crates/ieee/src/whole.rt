@@ -1,0 +1,72 @@
+// A float's floor and ceiling as an integer.
+ghost use mathlib.Core.Path.{_≡_};
+ghost use Rattle.ieee.specs.Whole.{floorZ, ceilZ, biased};
+
+// Rust's `x.floor() as i64`.
+pub fn floor_to_i64(x: f64) -> i64
+    ensures { λ r. ⌜ r ≡ floorZ x ⌝ }
+{
+    if x >= -9223372036854775808.0 {
+        if x < 9223372036854775808.0 {
+            let t = std::num::truncating_f64_to_i64(x);
+            let back = std::num::nearest_i64_to_f64(t);
+            if x < back {
+                return t - 1;
+            }
+            return t;
+        }
+        return 9223372036854775807;
+    }
+    if x != x {
+        return 0;
+    }
+    -9223372036854775808
+}
+
+// Rust's `x.ceil() as i64`.
+pub fn ceil_to_i64(x: f64) -> i64
+    ensures { λ r. ⌜ r ≡ ceilZ x ⌝ }
+{
+    if x >= -9223372036854775808.0 {
+        if x < 9223372036854775808.0 {
+            let t = std::num::truncating_f64_to_i64(x);
+            let back = std::num::nearest_i64_to_f64(t);
+            if back < x {
+                return t + 1;
+            }
+            return t;
+        }
+        return 9223372036854775807;
+    }
+    if x != x {
+        return 0;
+    }
+    -9223372036854775808
+}
+
+// A column as the tables hold it.
+pub fn bias(n: i64) -> u64
+    ensures { λ r. ⌜ r ≡ biased n ⌝ }
+{
+    if n < -2147483648 {
+        return 0;
+    }
+    if n > 2147483647 {
+        return 4294967295;
+    }
+    (n + 2147483648) as u64
+}
+
+// The column of a coordinate: its floor, as the tables hold it.
+pub fn column_of(x: f64) -> u64
+    ensures { λ r. ⌜ r ≡ biased (floorZ x) ⌝ }
+{
+    bias(floor_to_i64(x))
+}
+
+// The column where a stretch that ends at x ends, itself not counted: its ceiling, as the tables hold it.
+pub fn column_up(x: f64) -> u64
+    ensures { λ r. ⌜ r ≡ biased (ceilZ x) ⌝ }
+{
+    bias(ceil_to_i64(x))
+}

@@ -1,0 +1,138 @@
+//! Writes the vectors that the program `ieee_vectors` replays: `stdin` (function and operands) and
+//! `stdout` (the same with the answer of the machine's own function behind it), into the folder
+//! that is its one argument. The list is the same on every run.
+use std::fmt::Write;
+
+const SIGN: u64 = 1 << 63;
+const INFINITY: u64 = 2047 << 52;
+const NAN: u64 = 0x7ff8_0000_0000_0000;
+
+struct Random(u64);
+
+impl Random {
+    /// Marsaglia's xorshift with the shifts 13, 7 and 17.
+    fn next(&mut self) -> u64 {
+        self.0 ^= self.0 << 13;
+        self.0 ^= self.0 >> 7;
+        self.0 ^= self.0 << 17;
+        self.0
+    }
+}
+
+/// One pattern stands for every NaN.
+fn pattern(x: f64) -> u64 {
+    if x.is_nan() { NAN } else { x.to_bits() }
+}
+
+/// A column as the tables hold it.
+fn column(n: i64) -> u64 {
+    (n.clamp(-(1 << 31), (1 << 31) - 1) + (1 << 31)) as u64
+}
+
+/// The least value whose root is at least b, by bisection over the patterns from +0 to infinity.
+fn threshold(b: f64) -> f64 {
+    if b.is_nan() {
+        return b;
+    }
+    let (mut low, mut high) = (0, INFINITY);
+    while low < high {
+        let middle = low + (high - low) / 2;
+        if b <= f64::from_bits(middle).sqrt() { high = middle } else { low = middle + 1 }
+    }
+    f64::from_bits(high)
+}
+
+fn answer(function: char, x: f64, y: f64) -> u64 {
+    match function {
+        'r' => pattern(x.sqrt()),
+        'f' => (x.floor() as i64) as u64,
+        'c' => (x.ceil() as i64) as u64,
+        'd' => column(x.floor() as i64),
+        'u' => column(x.ceil() as i64),
+        'a' => pattern(x.abs()),
+        'l' => pattern(x.min(y)),
+        'g' => pattern(x.max(y)),
+        't' => pattern(threshold(x)),
+        _ => unreachable!(),
+    }
+}
+
+/// Values at which a float function goes wrong first, of both signs.
+fn special() -> Vec<u64> {
+    let mut list = vec![0, 1, 2, 3, (1 << 52) - 1, 1 << 52, (1 << 52) + 1, INFINITY - 1, INFINITY, NAN];
+    for x in [0.5, 1.0, 1.5, 2.0, 2.5, 1e-8, 1.4143, 256.0, 65_536.0, 1e308] {
+        list.extend([f64::to_bits(x) - 1, f64::to_bits(x), f64::to_bits(x) + 1]);
+    }
+    // where the fraction ends, where a column ends, where an i64 ends
+    for power in [30, 31, 32, 40, 51, 52, 53, 54, 62, 63, 64] {
+        let edge = 2f64.powi(power);
+        for x in [edge - 1.0, edge - 0.5, edge, edge + 0.5, edge + 1.0] {
+            list.extend([x.to_bits() - 1, x.to_bits(), x.to_bits() + 1]);
+        }
+    }
+    let negative: Vec<u64> = list.iter().map(|b| b ^ SIGN).collect();
+    list.extend(negative);
+    list
+}
+
+/// Where a root is a whole number, or as near as can be to the middle between two values.
+fn square(random: &mut Random) -> u64 {
+    let root = random.next() >> (12 + random.next() % 40);
+    let (whole, middle) = (root as u128, 2 * (root as u128) + 1);
+    let n = if random.next() % 2 == 0 { whole * whole } else { middle * middle };
+    let power = (random.next() % 1000) as i32 - 500;
+    (n as f64 * 2f64.powi(power)).to_bits() + random.next() % 3 - 1
+}
+
+fn roots(random: &mut Random) -> Vec<u64> {
+    let mut list = special();
+    for exponent in 0..2047 {
+        list.push(exponent << 52 | random.next() >> 12); // random bits of every exponent
+    }
+    list.extend((0..64).map(|k| (k * 32 + random.next() % 32) << 52)); // powers of two
+    list.extend((0..52).map(|k| 1u64 << k)); // the subnormal ones
+    list.extend((0..100).map(|k| random.next() >> (12 + k % 52))); // subnormals of every length
+    list.extend((0..900).map(|_| square(random)));
+    list
+}
+
+/// Numbers with a fraction of some binary digits, of both signs, and any patterns at all.
+fn reals(random: &mut Random, count: usize) -> Vec<u64> {
+    let mut list = special();
+    for _ in 0..count {
+        let whole = (random.next() as i64) >> (random.next() % 63);
+        let parts = 2f64.powi((random.next() % 60) as i32);
+        list.push((whole as f64 / parts).to_bits());
+        list.push(random.next());
+    }
+    list
+}
+
+fn main() {
+    let folder = std::env::args().nth(1).expect("the folder to write to");
+    let mut random = Random(88_172_645_463_325_252);
+    let mut vectors: Vec<(char, u64, u64)> = Vec::new();
+    vectors.extend(roots(&mut random).into_iter().map(|x| ('r', x, 0)));
+    for (function, count) in [('f', 300), ('c', 300), ('d', 80), ('u', 80), ('a', 20), ('t', 300)] {
+        vectors.extend(reals(&mut random, count).into_iter().map(|x| (function, x, 0)));
+    }
+    // which zero comes of two zeros is open (docs/DIFFERENCES.md), so they are left out
+    let zero = |x: u64| x & !SIGN == 0;
+    let others = special();
+    for function in ['l', 'g'] {
+        for x in reals(&mut random, 40) {
+            let y = others[random.next() as usize % others.len()];
+            if !(zero(x) && zero(y)) {
+                vectors.push((function, x, y));
+            }
+        }
+    }
+    let (mut asked, mut answered) = (String::new(), String::new());
+    for (function, x, y) in vectors {
+        writeln!(asked, "{function} {x:016x} {y:016x}").unwrap();
+        let result = answer(function, f64::from_bits(x), f64::from_bits(y));
+        writeln!(answered, "{function} {x:016x} {y:016x} {result:016x}").unwrap();
+    }
+    std::fs::write(format!("{folder}/stdin"), asked).unwrap();
+    std::fs::write(format!("{folder}/stdout"), answered).unwrap();
+}
