@@ -1,11 +1,11 @@
 -- `bias` computes `biased`. Assumes nothing.
-use mathlib.Core.Path.{_≡_, refl, sym, ap, _∙_, subst}
-use Prim.Native.Nat.{ℕ, zero, suc, _+_, _-_, _^_, _≤_, _<_, min}
+use mathlib.Core.Path.{_≡_, refl, ap, _∙_}
+use Prim.Native.Nat.{ℕ, suc, _+_, _-_, _^_, _≤_, _<_, min}
 use native.Mathlib.Omega.{arith}
 use mathlib.Core.Bool.{Bool, true, false, cond, false≢true}
 use lib.IntN.{ℤ, pos, negsuc, _+ℤ_}
 use lib.Signed.{ltZ, leZ, mag}
-use lib.Dec.{T, ltb, leb, le→leb, leb→le}
+use lib.Dec.{ltb, leb, le→leb, leb→le}
 use borrow.Author.Tests.{ltb-true, ltb-false, le-ltb, lt-ltb, lt-leb, le-leb}
 use Rattle.ieee.specs.Whole.{biased, unbias}
 use Rattle.ieee.proofs.Tools.{same-test}

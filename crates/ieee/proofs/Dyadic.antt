@@ -1,15 +1,15 @@
 -- Float steps that lose nothing. `Is x a b j` says that x is finite and is the number (a - b) / 2 ^ j, a zero of either sign included.
 -- The laws carry it through `add`, `sub`, `mul` and `div` by a power of two, as long as the numbers stay below 2 ^ 52, and to floor and ceiling. Assumes nothing.
 use mathlib.Core.Path.{_≡_, refl, sym, ap, _∙_, subst}
-use Prim.Native.Nat.{ℕ, zero, suc, _+_, _-_, _*_, _/_, _%_, _^_, _≤_, _<_, min}
-use native.Mathlib.Nat.{le-trans, le-of-eq, lt-of-lt-of-le, lt-of-le-of-lt, le-antisymm, mul-one, one-mul, mul-comm, mul-assoc, mul-left-comm, mul-right-comm, mul-mul-mul-comm, mul-pos, add-mul, mul-sub, eq-of-mul-eq-mul-right, mul-le-mul-right, mul-lt-mul-of-pos-right, zero-lt-suc, add-comm}
+use Prim.Native.Nat.{ℕ, suc, _+_, _-_, _*_, _^_, _≤_, _<_}
+use native.Mathlib.Nat.{lt-of-lt-of-le, mul-one, one-mul, mul-comm, mul-assoc, mul-right-comm, mul-pos, add-mul, mul-sub, eq-of-mul-eq-mul-right, zero-lt-suc}
 use native.Mathlib.Omega.{arith}
-use mathlib.Core.Bool.{Bool, true, false, not, _&&_, Bool·beq, cond}
-use lib.IntN.{ℤ, pos, negsuc, negℤ}
-use lib.Dec.{T, ltb, eqb, eqb·suc-zero}
+use mathlib.Core.Bool.{Bool, true, false, not, _&&_, cond}
+use lib.IntN.{ℤ, pos, negsuc}
+use lib.Dec.{ltb}
 use lib.Pow.{pow-add, pow-pos, pow-mono, shl-lt}
 use lib.Ieee.{Float, nan, inf, fin, binary64, up, down, round, neg, sum, add, sub, mul, div, unlike, ofInt}
-use lib.Ieee.Fits.{down-pos, up-pos}
+use lib.Ieee.Fits.{down-pos}
 use lib.Ieee.Exact.{HasValue, round-exact}
 use lib.Ieee.Back.{round-whole}
 use borrow.Author.Tests.{ltb-true, ltb-false}

@@ -1,21 +1,20 @@
 -- Floor and ceiling of a float that is (a - b) / 2 ^ j: the floor as the integers' division that rounds down, the ceiling where it is not negative. Assumes nothing.
-use mathlib.Core.Path.{_≡_, refl, sym, ap, _∙_, subst}
+use mathlib.Core.Path.{_≡_, refl, sym, ap, _∙_}
 use Prim.Native.Nat.{ℕ, zero, suc, _+_, _-_, _*_, _/_, _%_, _^_, _≤_, _<_, min, zero-le}
-use native.Mathlib.Nat.{le-trans, le-of-eq, lt-of-le-of-lt, lt-of-lt-of-le, lt-irrefl, mul-one, mul-comm, mul-assoc, mul-right-comm, add-zero, add-mul, add-comm, suc-mul, div-add-mod', mod-lt, div-mul-le-self, lt-of-mul-lt-mul-right, le-of-mul-le-mul-right, eq-of-mul-eq-mul-right, le-dest, zero-mul, zero-add, div-eq-of-lt, mod-eq-of-lt, div-le-self}
+use native.Mathlib.Nat.{le-of-eq, lt-of-le-of-lt, mul-right-comm, add-zero, suc-mul, div-add-mod', mod-lt, eq-of-mul-eq-mul-right, zero-add, div-eq-of-lt, mod-eq-of-lt, div-le-self}
 use native.Mathlib.Numerals.{add-one}
 use native.Mathlib.Omega.{arith}
 use mathlib.Core.Bool.{Bool, true, false, cond}
 use lib.IntN.{ℤ, pos, negsuc, negℤ, subℕ}
 use lib.Signed.{shrZ}
-use lib.Dec.{T, eqb, ltb, eqb→eq}
+use lib.Dec.{eqb, ltb, eqb→eq}
 use lib.Pow.{pow-pos}
 use borrow.Author.Tests.{ne-eqb, ltb-true, ltb-false, le-ltb, lt-ltb}
 use lib.Arith.{digits-div, digits-mod}
 use lib.Ieee.{Float, nan, inf, fin, up, down}
 use lib.Ieee.Fits.{down-pos, eq→eqb}
-use lib.Ieee.Exact.{HasValue}
 use lib.Ieee.Nearest.{div-same}
-use Rattle.ieee.specs.Whole.{ceilDiv, downZ, upZ, sat, biased, floorZ, ceilZ}
+use Rattle.ieee.specs.Whole.{ceilDiv, downZ, upZ, sat, floorZ, ceilZ}
 use Rattle.ieee.proofs.Tools.{same-test}
 use Rattle.ieee.proofs.Dyadic.{Off, Is, off-lt}
 

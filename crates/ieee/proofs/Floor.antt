@@ -1,22 +1,22 @@
 -- What `floor_to_i64` and `ceil_to_i64` compute is what `floorZ` and `ceilZ` say. Assumes nothing.
 use mathlib.Core.Path.{_≡_, refl, sym, ap, _∙_, subst}
 use Prim.Native.Nat.{ℕ, zero, suc, _+_, _-_, _*_, _/_, _%_, _^_, _≤_, _<_, min}
-use native.Mathlib.Nat.{mul-one, zero-mul, mul-assoc, mul-pos, add-zero, le-trans, le-of-eq, le-of-lt, lt-of-lt-of-le, lt-of-le-of-lt, div-one, div-le-self, div-mul-le-self, div-add-mod', mod-lt, le-div-iff-mul-le, div-lt-iff-lt-mul, le-of-mul-le-mul-right, lt-of-mul-lt-mul-right, mul-lt-mul-of-pos-right, zero-lt-suc}
+use native.Mathlib.Nat.{mul-one, zero-mul, mul-assoc, mul-pos, add-zero, le-trans, le-of-eq, le-of-lt, lt-of-lt-of-le, div-one, div-le-self, div-mul-le-self, div-add-mod', le-div-iff-mul-le, div-lt-iff-lt-mul, le-of-mul-le-mul-right, lt-of-mul-lt-mul-right, mul-lt-mul-of-pos-right, zero-lt-suc}
 use native.Mathlib.Numerals.{add-one}
 use native.Mathlib.Omega.{arith}
-use mathlib.Core.Bool.{Bool, true, false, not, _&&_, _||_, cond, true≢false, false≢true}
+use mathlib.Core.Bool.{Bool, true, false, _&&_, _||_, cond, true≢false}
 use lib.IntN.{ℤ, pos, negsuc, negℤ, _+ℤ_, _-ℤ_}
 use lib.Signed.{mag}
-use lib.Dec.{T, ltb, leb, eqb, ltb→lt, nltb→le, eqb→eq, lit≤, lit<}
-use lib.Pow.{pow-add, pow-pos, pow-mono}
-use lib.Ieee.{Float, nan, inf, fin, binary64, up, down, round, lt, le, eq, ne, fits, ofInt, toSigned, below}
+use lib.Dec.{T, ltb, eqb, ltb→lt, eqb→eq}
+use lib.Pow.{pow-add, pow-pos}
+use lib.Ieee.{Float, nan, inf, fin, binary64, up, down, round, lt, le, eq, ne, fits, ofInt, toSigned}
 use lib.Ieee.Fits.{down-pos, and-l}
 use lib.Ieee.Exact.{HasValue, round-exact}
 use lib.Ieee.Back.{round-whole}
 use lib.Ieee.Compare.{differs-from-itself, nan-differs}
 use borrow.Author.Tests.{ltb-true, ltb-false, le-ltb, eq-eqb, ne-eqb}
-use Rattle.ieee.specs.Whole.{ceilDiv, downZ, upZ, sat, floorZ, ceilZ}
-use Rattle.ieee.proofs.Tools.{T-true, not-both, Held, held, lt-whole, whole-lt}
+use Rattle.ieee.specs.Whole.{ceilDiv, sat, floorZ, ceilZ}
+use Rattle.ieee.proofs.Tools.{T-true, not-both, held, lt-whole, whole-lt}
 
 abbrev pub low63 : Float
 low63 = fin true 1 (pos 63)

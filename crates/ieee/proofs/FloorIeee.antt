@@ -1,18 +1,17 @@
 -- `floorZ` is Rust's `as i64` of IEEE 754's floor, and `ceilZ` of its ceiling, for every value of binary64. Assumes nothing.
 use mathlib.Core.Path.{_≡_, refl, sym, ap, _∙_, subst}
-use Prim.Native.Nat.{ℕ, zero, suc, _+_, _-_, _*_, _/_, _%_, _^_, _≤_, _<_, min}
-use native.Mathlib.Nat.{mul-one, mul-div-cancel, div-mul-le-self}
+use Prim.Native.Nat.{ℕ, zero, suc, _-_, _*_, _/_, _^_, _≤_, _<_, min}
+use native.Mathlib.Nat.{mul-one, mul-div-cancel}
 use native.Mathlib.Omega.{arith}
-use mathlib.Core.Logic.{_⊎_, inl, inr}
-use mathlib.Core.Bool.{Bool, true, false, cond, true≢false, false≢true}
-use lib.IntN.{ℤ, pos, negsuc, negℤ}
+use mathlib.Core.Bool.{Bool, true, false, true≢false, false≢true}
+use lib.IntN.{ℤ, pos, negℤ}
 use lib.Dec.{T, ltb}
 use lib.Ieee.{Float, nan, inf, fin, binary64, up, down, round, fits, toSigned}
 use lib.Ieee.Fits.{down-pos}
 use lib.Ieee.Exact.{HasValue}
 use lib.Ieee.Back.{round-whole}
 use borrow.Author.Tests.{ltb-true, ltb-false}
-use Rattle.ieee.specs.Whole.{ceilDiv, downZ, upZ, sat, floorZ, ceilZ, floorF, ceilF}
+use Rattle.ieee.specs.Whole.{ceilDiv, sat, floorZ, ceilZ, floorF, ceilF}
 use Rattle.ieee.proofs.Tools.{held}
 use Rattle.ieee.proofs.Floor.{cut-exact, has-rest, no-rest, rest-small}
 

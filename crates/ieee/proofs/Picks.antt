@@ -1,17 +1,17 @@
 -- What the tests in `abs`, `min` and `max` tell. Assumes nothing.
 use mathlib.Core.Path.{_≡_, refl, sym, ap, _∙_, subst}
 use Prim.Native.Nat.{ℕ, zero, suc, _+_, _*_, _^_, _≤_, _<_}
-use native.Mathlib.Nat.{mul-one, one-mul, zero-mul, mul-pos, zero-lt-suc, pow-succ', lt-irrefl}
+use native.Mathlib.Nat.{mul-one, one-mul, zero-mul, mul-pos, zero-lt-suc, pow-succ'}
 use native.Mathlib.Omega.{arith}
-use mathlib.Core.Bool.{Bool, true, false, _&&_, cond, true≢false, false≢true}
+use mathlib.Core.Bool.{Bool, true, false, cond, true≢false, false≢true}
 use lib.IntN.{ℤ, pos, negsuc}
-use lib.Dec.{T, ltb, eqb, eqb→eq, ltb→lt}
+use lib.Dec.{T, eqb, eqb→eq, ltb→lt}
 use lib.Pow.{pow-pos}
-use lib.Ieee.{Float, nan, inf, fin, binary64, up, down, neg, lt, eq, ne, isNan, fits, ofBits}
-use lib.Ieee.Fits.{and-l, and-r, up-pos, down-pos}
+use lib.Ieee.{Float, nan, inf, fin, binary64, up, down, neg, lt, eq, ne, isNan, fits}
+use lib.Ieee.Fits.{and-l, up-pos}
 use lib.Ieee.Compare.{differs-from-itself, nan-differs}
 use borrow.Author.Tests.{ltb-false}
-use Rattle.ieee.specs.Pick.{absF, minF, maxF}
+use Rattle.ieee.specs.Pick.{absF}
 use Rattle.ieee.proofs.Tools.{T-true, not-both}
 
 -- +0, as the code's `0.0` is read

@@ -1,21 +1,21 @@
 -- Bit patterns of positive binary64 values, in units of the smallest value, 2 ^ -1074. Assumes nothing.
 use mathlib.Core.Path.{_≡_, refl, sym, ap, _∙_, subst}
 use Prim.Native.Nat.{ℕ, zero, suc, _+_, _-_, _*_, _/_, _%_, _^_, _≤_, _<_}
-use native.Mathlib.Nat.{le-trans, le-of-eq, lt-of-lt-of-le, lt-of-le-of-lt, lt-irrefl, not-le-of-lt, zero-lt-suc, mod-eq-of-lt, mul-one, mul-assoc, mul-comm, mul-right-comm, mul-pos, mul-lt-mul-of-pos-right, mul-div-cancel, pow-suc, div-lt-iff-lt-mul, le-div-iff-mul-le}
+use native.Mathlib.Nat.{le-of-eq, lt-of-lt-of-le, not-le-of-lt, zero-lt-suc, mod-eq-of-lt, mul-one, mul-right-comm, mul-lt-mul-of-pos-right, mul-div-cancel, pow-suc, div-lt-iff-lt-mul}
 use native.Mathlib.Omega.{arith}
-use mathlib.Core.Bool.{Bool, true, false, not, cond, true≢false}
-use lib.IntN.{ℤ, pos}
+use mathlib.Core.Bool.{Bool, true, false, not, cond}
+use lib.IntN.{ℤ}
 use lib.Dec.{T, leb, ltb, eqb, leb→le, eqb→eq, not-T}
-use lib.Pow.{pow-add, pow-pos, pow-mono, shl-lt}
+use lib.Pow.{pow-pos, pow-mono, shl-lt}
 use lib.Count.{trailingZeros, under}
-use lib.Ieee.{Float, nan, inf, fin, binary64, up, down, size, odd, units, ofFields, ofBits, toBits, nanBits, isNan, fits, minus, eq}
-use lib.Ieee.Fits.{kept-lt, down-pos, up-pos}
+use lib.Ieee.{Float, nan, inf, fin, binary64, up, down, size, odd, units, ofFields, ofBits, toBits, nanBits, fits, minus}
+use lib.Ieee.Fits.{kept-lt, down-pos}
 use lib.Ieee.Digits.{size-le}
-use lib.Ieee.Bits.{is-false, is-true, cond-no, ofBits-toBits, nanBits-above}
+use lib.Ieee.Bits.{is-false, cond-no, ofBits-toBits, nanBits-above}
 use lib.Ieee.Exact.{HasValue, odd-sign}
 use borrow.Author.Tests.{lt-ltb, le-ltb, ltb-true, ltb-false}
 use Rattle.ieee.specs.RootSteps.{bitUnits}
-use Rattle.ieee.proofs.Tools.{held, not-both}
+use Rattle.ieee.proofs.Tools.{held}
 
 -- ---- what a pattern below the infinity's stands for
 ofBits-is : (b : ℕ) → ofBits binary64 b ≡ ofFields binary64 (leb (2 ^ 63) b) (b % 2 ^ 63 / 2 ^ 52) (b % 2 ^ 52)

@@ -2,11 +2,11 @@
 use mathlib.Core.Path.{_≡_, refl, sym, ap, _∙_, subst}
 use mathlib.Core.Logic.{_⊎_, inl, inr}
 use Prim.Native.Nat.{ℕ, zero, suc, _+_, _*_, _/_, _^_, _≤_, _<_}
-use native.Mathlib.Nat.{lt-irrefl, mul-pos, zero-mul, zero-lt-suc, eq-zero-or-pos}
+use native.Mathlib.Nat.{mul-pos, zero-mul, zero-lt-suc, eq-zero-or-pos}
 use native.Mathlib.Omega.{arith}
 use mathlib.Core.Bool.{Bool, true, false, cond, true≢false, false≢true}
-use lib.IntN.{ℤ, pos}
-use lib.Dec.{T, eqb, ltb, ltb→lt, eqb·suc-zero}
+use lib.IntN.{ℤ}
+use lib.Dec.{T, ltb→lt, eqb·suc-zero}
 use lib.Ieee.{Float, nan, inf, fin, binary64, up, down, lt, fits, ofBits, toBits}
 use lib.Ieee.Fits.{up-pos}
 use lib.Ieee.Bits.{ofBits-toBits}

@@ -1,11 +1,11 @@
 -- The digit-by-digit root of m * 2 ^ 54: what holds at the head of the loop, and that a turn keeps it. Assumes nothing.
-use mathlib.Core.Path.{_≡_, refl, sym, ap, _∙_, subst}
+use mathlib.Core.Path.{_≡_, sym, ap, _∙_}
 use Prim.Native.Nat.{ℕ, zero, suc, _+_, _-_, _*_, _/_, _%_, _^_, _≤_, _<_}
-use native.Mathlib.Nat.{le-trans, le-of-eq, lt-of-lt-of-le, lt-irrefl, mul-one, mul-assoc, mul-comm, mul-mul-mul-comm, pow-succ'}
+use native.Mathlib.Nat.{lt-irrefl, mul-one, mul-assoc, mul-comm, mul-mul-mul-comm, pow-succ'}
 use native.Mathlib.Omega.{arith}
-use lib.Pow.{pow-mono, pow-pos}
+use lib.Pow.{pow-mono}
 use Rattle.ieee.specs.Root.{Rooted}
-use Rattle.ieee.proofs.Squares.{sq-next, sq-double}
+use Rattle.ieee.proofs.Squares.{sq-next}
 
 -- t turns are left. The digits taken make r * r + rem, and those not yet taken stand in `left`, from its top.
 pub record Turn (m left rem r t : ℕ) : Type 0 where

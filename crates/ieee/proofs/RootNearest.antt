@@ -2,12 +2,12 @@
 -- (v - 1/2) * 2 ^ k ≤ root of w ≤ (v + 1/2) * 2 ^ k, which is said of the squares, each times 4. Assumes nothing.
 use mathlib.Core.Path.{_≡_, refl, sym, ap, _∙_, subst}
 use Prim.Native.Nat.{ℕ, zero, suc, _+_, _-_, _*_, _/_, _%_, _^_, _≤_, _<_, compare, Ordering, Ordering·lt, Ordering·eq, Ordering·gt}
-use native.Mathlib.Nat.{le-refl, le-trans, le-of-eq, le-of-lt, mul-right-comm, mul-le-mul-right, mul-lt-mul-of-pos-right, le-div-iff-mul-le, div-lt-iff-lt-mul, mul-assoc}
+use native.Mathlib.Nat.{le-trans, le-of-eq, le-of-lt, mul-le-mul-right, le-div-iff-mul-le, div-lt-iff-lt-mul, mul-assoc}
 use native.Mathlib.Omega.{arith}
-use mathlib.Core.Bool.{Bool, true, false, not}
+use mathlib.Core.Bool.{false, not}
 use lib.Dec.{T, isLe, isEq, leb→le, nleb→lt, eqb→eq}
 use lib.Pow.{pow-pos}
-use lib.Ieee.{Float, binary64, size, nearest, units}
+use lib.Ieee.{binary64, size, nearest, units}
 use Rattle.ieee.specs.Root.{Rooted, Nearest, isqrt, rootUnits}
 use Rattle.ieee.proofs.Squares.{sq-double, sq-mono, isqrt-law}
 

@@ -1,26 +1,20 @@
 -- The laws that `root_scaled` and `root_positive` cite. Assumes nothing.
-use mathlib.Core.Path.{_≡_, refl, sym, ap, _∙_, subst}
+use mathlib.Core.Path.{_≡_, refl, sym, ap, _∙_}
 use Prim.Native.Nat.{ℕ, zero, suc, _+_, _-_, _*_, _/_, _%_, _^_, _≤_, _<_}
-use native.Mathlib.Nat.{le-trans, le-of-eq, lt-of-lt-of-le, lt-of-le-of-lt, lt-of-not-le, not-le-of-lt, lt-irrefl, mul-one, mul-comm, mul-assoc, mul-left-comm, mul-le-mul-right, mul-lt-mul-of-pos-right, mod-eq-of-lt, zero-lt-suc, zero-mul, mul-pos, eq-zero-or-pos}
+use native.Mathlib.Nat.{le-trans, le-of-eq, lt-of-lt-of-le, lt-of-not-le, not-le-of-lt, mul-one, mul-comm, mul-assoc, mul-le-mul-right, mul-lt-mul-of-pos-right, mod-eq-of-lt}
 use native.Mathlib.Omega.{arith}
 use mathlib.Core.Logic.{_⊎_, inl, inr}
-use mathlib.Core.Bool.{Bool, true, false, not, _&&_, cond, true≢false, false≢true}
-use lib.IntN.{ℤ, pos}
-use lib.Dec.{T, eqb, ltb, eqb→eq, ltb→lt, eqb·suc-zero, lit≤}
+use mathlib.Core.Bool.{false}
+use lib.Dec.{lit≤}
 use lib.Pow.{pow-add, pow-pos, pow-mono}
 use lib.Count.{leadingZeros, leading-top}
-use lib.Ieee.{Float, nan, inf, fin, binary64, up, down, lt, eq, ne, isNan, fits, ofBits, toBits, units}
-use lib.Ieee.Fits.{and-l, up-pos}
-use lib.Ieee.Bits.{ofBits-toBits}
-use borrow.Author.Tests.{ltb-false}
-use Rattle.ieee.specs.Root.{Rooted, isqrt, rootUnits, rootF}
+use lib.Ieee.{binary64, ofBits, units}
+use Rattle.ieee.specs.Root.{Rooted, isqrt, rootUnits}
 use Rattle.ieee.specs.RootSteps.{Scaled, Rounded, bitUnits}
 use Rattle.ieee.proofs.Squares.{root-ge, root-lt, isqrt-law}
 use Rattle.ieee.proofs.RootChecked.{rounded-is}
 use Rattle.ieee.proofs.RootCore.{root-core}
-use Rattle.ieee.proofs.RootBits.{units-low, units-high, units-bits, units-of, bits-under}
-use Rattle.ieee.proofs.Tools.{T-true, not-both}
-use Rattle.ieee.proofs.Picks.{nought, zero-exp, is-nan, no-nan}
+use Rattle.ieee.proofs.RootBits.{units-low, units-high, units-bits}
 
 -- ---- m = v * (1 + g % 2)
 pub by-parity : (v g : ℕ) → ((g % 2 ≡ 0) × (v * (1 + g % 2) ≡ v)) ⊎ ((g % 2 ≡ 1) × (v * (1 + g % 2) ≡ 2 * v))

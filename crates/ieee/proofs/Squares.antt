@@ -1,11 +1,10 @@
 -- `isqrt n` is the one number r with r * r ≤ n < (r + 1) * (r + 1). Assumes nothing.
-use mathlib.Core.Path.{_≡_, refl, sym, ap, _∙_, subst}
-use Prim.Native.Nat.{ℕ, zero, suc, _+_, _-_, _*_, _/_, _%_, _^_, _≤_, _<_, zero-le}
-use native.Mathlib.Nat.{le-refl, le-trans, le-of-eq, le-of-lt, lt-of-lt-of-le, lt-of-le-of-lt, lt-irrefl, le-antisymm, le-of-suc-le-suc, lt-of-not-le, not-le-of-lt, zero-lt-suc, mul-le-mul, mul-add, add-mul, mul-comm, mul-assoc, mul-left-comm, add-assoc, add-comm, add-left-comm, mul-one, one-mul, pow-suc, div-lt-iff-lt-mul, mul-mul-mul-comm}
+use mathlib.Core.Path.{_≡_, ap, _∙_, subst}
+use Prim.Native.Nat.{ℕ, zero, suc, _+_, _*_, _/_, _^_, _≤_, _<_, zero-le}
+use native.Mathlib.Nat.{le-refl, lt-of-lt-of-le, lt-of-le-of-lt, le-antisymm, lt-of-not-le, not-le-of-lt, mul-le-mul, mul-add, add-mul, pow-suc, mul-mul-mul-comm}
 use native.Mathlib.Omega.{arith}
 use mathlib.Core.Bool.{Bool, true, false, not, cond}
 use lib.Dec.{T, leb, leb→le, nleb→lt}
-use lib.Pow.{pow-add, pow-pos, pow-mono}
 use lib.Ieee.{size}
 use lib.Ieee.Digits.{size-lt}
 use Rattle.ieee.specs.Root.{Rooted, digit, rootIn, isqrt}

@@ -1,7 +1,7 @@
 -- The correctly rounded square root of a binary64 value (IEEE 754-2019, squareRoot; nearest, ties to even), over integer squares: no real number is named.
 -- Definitions only. `proofs/Squares.antt` shows `Rooted n (isqrt n)`, and `proofs/RootNearest.antt` that `rootUnits` is nearest in the sense of `Nearest`.
 use Prim.Native.Nat.{ℕ, zero, suc, _+_, _-_, _*_, _/_, _^_, _≤_, _<_, compare}
-use mathlib.Core.Bool.{Bool, true, false, cond}
+use mathlib.Core.Bool.{false, cond}
 use lib.Dec.{leb, eqb}
 use lib.Ieee.{Float, nan, inf, fin, binary64, up, down, size, nearest, units}
 

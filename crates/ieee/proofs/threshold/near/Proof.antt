@@ -1,6 +1,5 @@
 -- `ieee::threshold::near` meets its contract: two roots, at patterns side by side. Assumes nothing.
 use mathlib.Core.Path.{_∙_, sym}
-use Prim.Native.Nat.{_+_}
 use native.Mathlib.Omega.{arith}
 use borrow.Author.Needs.{needs}
 use Rattle.ieee.proofs.Thresholds.{none-first, this-first, next-first}
