@@ -3,8 +3,9 @@ use mathlib.Core.Path.{_≡_, refl}
 use mathlib.Core.Bool.{true, false}
 use lib.IntN.{pos, negsuc}
 use lib.Ieee.{nan, inf, fin, binary64, div, ofInt, ofBits}
+use Rattle.ieee.specs.Constants.{pow2}
 use Rattle.ieee.specs.Whole.{floorZ, ceilZ}
-use Rattle.ieee.specs.Yard.{pow2, shiftF, lowF, highF, inYard}
+use Rattle.ieee.specs.Yard.{shiftF, lowF, highF, inYard}
 use Rattle.ieee.specs.Root.{rootF}
 
 -- document 01, example 1: r = 0 and 128 give s = 1; r = 129 gives 2

@@ -14,10 +14,11 @@ use lib.Ieee.Fits.{down-pos}
 use lib.Ieee.Bits.{is-false, ofBits-toBits, nanBits-is}
 use lib.Ieee.Exact.{HasValue}
 use borrow.Author.Tests.{not-true, leb-true, ltb-true, lt-ltb, le-ltb, le-leb, lt-leb, eq-eqb}
+use Rattle.ieee.specs.Constants.{nought}
 use Rattle.ieee.specs.RootSteps.{bitUnits}
 use Rattle.ieee.proofs.Tools.{same-test, lt-or-ge, not-both, T-true, ltb-scale}
 use Rattle.ieee.proofs.Compare.{both-pos}
-use Rattle.ieee.proofs.Picks.{nought, zero-exp}
+use Rattle.ieee.proofs.Picks.{zero-exp}
 use Rattle.ieee.proofs.RootBits.{units-low, units-high, bits-value, bits-under, no-nan-bits}
 use Rattle.ieee.proofs.RootCases.{not-below, is-below}
 

@@ -11,12 +11,9 @@ use lib.Ieee.{Float, nan, inf, fin, binary64, up, down, neg, lt, eq, ne, isNan, 
 use lib.Ieee.Fits.{and-l, up-pos}
 use lib.Ieee.Compare.{differs-from-itself, nan-differs}
 use borrow.Author.Tests.{ltb-false}
+use Rattle.ieee.specs.Constants.{nought}
 use Rattle.ieee.specs.Pick.{absF}
 use Rattle.ieee.proofs.Tools.{T-true, not-both}
-
--- +0, as the code's `0.0` is read
-abbrev pub nought : Float
-nought = fin false 0 (pos 0)
 
 none-below : (a b : ℕ) → b ≡ 0 → a < b → ⊥
 none-below a b z h = omega arith

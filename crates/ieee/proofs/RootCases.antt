@@ -11,11 +11,11 @@ use lib.Ieee.{Float, nan, inf, fin, binary64, up, down, lt, fits, ofBits, toBits
 use lib.Ieee.Fits.{up-pos}
 use lib.Ieee.Bits.{ofBits-toBits}
 use borrow.Author.Tests.{ltb-false}
+use Rattle.ieee.specs.Constants.{nought}
 use Rattle.ieee.specs.Root.{rootUnits, rootF}
 use Rattle.ieee.specs.RootSteps.{bitUnits}
 use Rattle.ieee.proofs.RootBits.{units-of, bits-under}
 use Rattle.ieee.proofs.Tools.{T-true, not-both}
-use Rattle.ieee.proofs.Picks.{nought}
 
 -- ---- on which side of zero a finite value lies
 size-pos : (m : ℕ) (e : ℤ) → 0 < suc m * up e * 1

@@ -14,10 +14,10 @@ use lib.Ieee.Fits.{down-pos, nan-fits, cond-fits, inf-fits}
 use lib.Ieee.Bits.{ofBits-toBits, ofBits-fits, toBits-ofBits}
 use lib.Ieee.Exact.{HasValue}
 use borrow.Author.Tests.{leb-true, le-leb}
+use Rattle.ieee.specs.Constants.{nought}
 use Rattle.ieee.specs.Root.{Rooted, isqrt, rootUnits, rootF}
 use Rattle.ieee.specs.RootSteps.{Scaled, bitUnits}
 use Rattle.ieee.proofs.Tools.{lt-or-ge}
-use Rattle.ieee.proofs.Picks.{nought}
 use Rattle.ieee.proofs.Squares.{root-ge, isqrt-law}
 use Rattle.ieee.proofs.RootBits.{bits-value, bits-under}
 use Rattle.ieee.proofs.RootScaled.{by-parity, scaled-range, root-range, scaled-root, scaled-bits, moved-scaled, moved-value, normal-scaled, normal-value}
@@ -196,7 +196,7 @@ unfolding isNan
 rank-some q t h k = ⊎-elim (λ e. absurd (true≢false (ap isNan (sym e) ∙ k))) (λ r. r) (rank q t h)
 
 -- ---- of two values, the first not below zero and at most the second, the first has a root that is at most the second's
-pub root-mono : (p q : Float) → T (fits binary64 p) → T (fits binary64 q) → lt p (fin false 0 (pos 0)) ≡ false → le p q ≡ true → le (rootF p) (rootF q) ≡ true
+pub root-mono : (p q : Float) → T (fits binary64 p) → T (fits binary64 q) → lt p nought ≡ false → le p q ≡ true → le (rootF p) (rootF q) ≡ true
 root-mono p q s t h k =
     let a = rank-some p s h (le-some-left p q k) in
     let b = rank-some q t (up-from-zero p q s h k) (le-some-right p q k) in

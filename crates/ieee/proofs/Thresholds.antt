@@ -5,18 +5,18 @@ use native.Mathlib.Nat.{le-refl, le-trans, le-of-eq, le-of-lt, lt-of-lt-of-le, l
 use native.Mathlib.Omega.{arith}
 use mathlib.Core.Logic.{⊎-elim}
 use mathlib.Core.Bool.{Bool, true, false, not, true≢false, false≢true}
-use lib.IntN.{pos}
 use lib.Dec.{T, leb, ltb, leb·zero, lit<}
 use lib.Ieee.{Float, nan, inf, fin, binary64, lt, le, ne, isNan, fits, ofBits, toBits}
 use lib.Ieee.Bits.{ofBits-toBits}
 use lib.Ieee.Compare.{differs-from-itself}
 use borrow.Author.Tests.{not-false, ltb-true, leb-true, leb-false, le-leb, lt-leb, lt-ltb, le-ltb}
+use Rattle.ieee.specs.Constants.{nought}
 use Rattle.ieee.specs.Pick.{absF}
 use Rattle.ieee.specs.Root.{rootF}
 use Rattle.ieee.specs.Threshold.{Threshold}
 use Rattle.ieee.specs.ThresholdSteps.{Between}
 use Rattle.ieee.proofs.Tools.{lt-or-ge, not-both, T-true}
-use Rattle.ieee.proofs.Picks.{nought, no-nan}
+use Rattle.ieee.proofs.Picks.{no-nan}
 use Rattle.ieee.proofs.RootBits.{bits-under}
 use Rattle.ieee.proofs.RootCases.{inf-bits}
 use Rattle.ieee.proofs.Patterns.{top-is, finite-is, le-not, lt-nan, le-nan, nan-le, is-nan-is, le-some-left, le-some-right, lt-some-right, lt-asym, Like, lt-like, le-like, bits-like, zero-like, like, none-below-low}
@@ -81,7 +81,7 @@ module _ (k n : ℕ) (h : n < 2047 * 2 ^ 52) (lo : rootBits n < k) (hi : k ≤ r
       (lt-or-ge j (n + 1))
 
 -- the root at n is not at least b, the root at n + 1 is: n + 1 is the threshold's pattern, for the root keeps the order and so do the patterns
-pub certified : (b : Float) → T (fits binary64 b) → lt (fin false 0 (pos 0)) b ≡ true → (n : ℕ) → n < 2047 * 2 ^ 52 → le b (rootF (ofBits binary64 n)) ≡ false → le b (rootF (ofBits binary64 (n + 1))) ≡ true → Threshold b (ofBits binary64 (n + 1))
+pub certified : (b : Float) → T (fits binary64 b) → lt nought b ≡ true → (n : ℕ) → n < 2047 * 2 ^ 52 → le b (rootF (ofBits binary64 n)) ≡ false → le b (rootF (ofBits binary64 (n + 1))) ≡ true → Threshold b (ofBits binary64 (n + 1))
 certified b f p n h lo hi = record {
   reached = λ q t l. ⊎-elim (le-root-nan b (ofBits binary64 (n + 1)) q) (reached q) (rank q t l);
   missed = λ q t l. ⊎-elim (root-nan-lt b (ofBits binary64 (n + 1)) q) (missed q) (rank q t l);

@@ -11,8 +11,9 @@ use lib.Pow.{pow-add, pow-pos, pow-mono}
 use borrow.Author.Tests.{eqb-true, eqb-false}
 use lib.Ieee.{Float, binary64, add, sub, mul, div, neg, ofInt}
 use lib.Ieee.Fits.{sub-fits}
+use Rattle.ieee.specs.Constants.{half, pow2}
 use Rattle.ieee.specs.Whole.{biased, unbias, floorZ, ceilZ}
-use Rattle.ieee.specs.Yard.{half, pow2, centreF, halfWidthF, lowCornerF, highCornerF, lowF, highF, shiftF, wholeN, divZ, upDivZ, twiceCentreZ, lowZ, highZ, shiftN}
+use Rattle.ieee.specs.Yard.{centreF, halfWidthF, lowCornerF, highCornerF, lowF, highF, shiftF, wholeN, divZ, upDivZ, twiceCentreZ, lowZ, highZ, shiftN}
 use Rattle.ieee.proofs.Integers.{ups, downs, neg-ups, neg-downs, add-parts, less-parts, parts-le, add-le, parts-mag, biased-at, unbias-parts, unbias-mag}
 use Rattle.ieee.proofs.Dyadic.{Is, is-nat, is-pow, is-half, is-lift, is-shift, is-add, is-sub, is-mul, is-div}
 use Rattle.ieee.proofs.DyadicWhole.{IsZ, Within, is-int, as-int, neg-int, add-int, float-of-int, floor-whole, ceil-whole}

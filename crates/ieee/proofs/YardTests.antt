@@ -15,8 +15,9 @@ use lib.Ieee.Exact.{HasValue}
 use lib.Ieee.Back.{round-whole, whole-unique}
 use lib.Ieee.Order.{round-mono}
 use borrow.Author.Tests.{ltb-true, ltb-false, lt-leb}
+use Rattle.ieee.specs.Constants.{nought, half, pow2}
 use Rattle.ieee.specs.Whole.{ceilDiv, ceilZ, floorF}
-use Rattle.ieee.specs.Yard.{half, pow2, nought, shiftF, isPower, isWhole, inYard, wholeN, shiftN}
+use Rattle.ieee.specs.Yard.{shiftF, isPower, isWhole, inYard, wholeN, shiftN}
 use Rattle.ieee.proofs.Tools.{T-true}
 use Rattle.ieee.proofs.Floor.{cut-exact}
 use Rattle.ieee.proofs.Dyadic.{Is, is-half, is-lift, is-shift, is-add, is-div}

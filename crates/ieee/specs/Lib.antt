@@ -1,4 +1,5 @@
 -- The definitions that the contracts and the laws cite.
+pub mod Constants
 pub mod Pick
 pub mod Root
 pub mod RootSteps

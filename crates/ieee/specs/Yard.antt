@@ -4,18 +4,9 @@ use Prim.Native.Nat.{ℕ, zero, suc, _+_, _*_, _/_}
 use mathlib.Core.Bool.{Bool, false, _&&_, _||_}
 use lib.IntN.{ℤ, pos, negsuc, negℤ, _+ℤ_, _-ℤ_, _*ℤ_}
 use lib.Signed.{leZ}
-use lib.Ieee.{Float, fin, binary64, add, sub, mul, div, eq, le, toUnsigned}
+use lib.Ieee.{Float, binary64, add, sub, mul, div, eq, le, toUnsigned}
+use Rattle.ieee.specs.Constants.{nought, half, pow2}
 use Rattle.ieee.specs.Whole.{ceilDiv, ceilZ, floorF}
-
--- 0.5, 2 ^ k and +0
-abbrev pub half : Float
-half = fin false 1 (negsuc 0)
-
-abbrev pub pow2 : ℕ → Float
-pow2 k = fin false 1 (pos k)
-
-abbrev pub nought : Float
-nought = fin false 0 (pos 0)
 
 -- ---- in floats: c is the cell size, r the radius, n the cell's column or row
 -- `Cell::center_point` (occupancy/mod.rs)

@@ -4,8 +4,8 @@ use crate::root;
 ghost use mathlib.Core.Path.{_≡_};
 ghost use mathlib.Core.Bool.{true, false};
 ghost use Prim.Native.Nat.{_-_, _*_, _^_, _<_, _≤_};
-ghost use lib.IntN.{pos};
-ghost use lib.Ieee.{fin, binary64, lt, le, ofBits};
+ghost use lib.Ieee.{binary64, lt, le, ofBits};
+ghost use Rattle.ieee.specs.Constants.{nought};
 ghost use Rattle.ieee.specs.Root.{rootF};
 ghost use Rattle.ieee.specs.Threshold.{Threshold};
 ghost use Rattle.ieee.specs.ThresholdSteps.{Between};
@@ -46,7 +46,7 @@ fn near(b: f64, n: u64) -> u64
 
 // The first pattern whose root is at least b, a value above zero: found by halving.
 fn bisect(b: f64) -> u64
-    requires { ⌜ lt (fin false 0 (pos 0)) b ≡ true ⌝ }
+    requires { ⌜ lt nought b ≡ true ⌝ }
     ensures { λ r. ⌜ Between b (r - 1) r ⌝ }
 {
     let mut lo: u64 = 0;

@@ -1,8 +1,8 @@
 -- `ieee::root::root` meets its contract. The laws are in `proofs/RootCases.antt`. Assumes nothing.
 use mathlib.Core.Path.{_∙_}
 use lib.Ieee.{div, ofBits}
+use Rattle.ieee.specs.Constants.{nought}
 use Rattle.ieee.proofs.Tools.{T-true, above-number}
-use Rattle.ieee.proofs.Picks.{nought}
 use Rattle.ieee.proofs.RootCases.{some-bits, root-finite, root-endless, root-below, root-neither}
 use Rattle.ieee.proofs.root.root.Statement.{statement}
 use Rattle.ieee.proofs.root.root.Tie as tie

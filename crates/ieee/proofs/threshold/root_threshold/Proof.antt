@@ -5,8 +5,9 @@ use Prim.Native.Nat.{_-_, _*_, _^_, _≤_}
 use native.Mathlib.Omega.{arith}
 use lib.Ieee.{binary64, mul, lt, ofBits, toBits}
 use borrow.Author.Needs.{needs}
+use Rattle.ieee.specs.Constants.{nought}
 use Rattle.ieee.proofs.Tools.{T-true}
-use Rattle.ieee.proofs.Picks.{nought, no-nan}
+use Rattle.ieee.proofs.Picks.{no-nan}
 use Rattle.ieee.proofs.RootBits.{no-nan-bits}
 use Rattle.ieee.proofs.RootCases.{some-bits}
 use Rattle.ieee.proofs.Patterns.{le-some-right}
