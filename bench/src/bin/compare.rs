@@ -3,6 +3,7 @@
 unsafe extern "C" {
     safe fn runcedau_root(x: f64) -> f64;
     safe fn runcedau_root_threshold(x: f64) -> f64;
+    safe fn runcedau_cut_to_i64(x: f64) -> i64;
     safe fn runcedau_floor_to_i64(x: f64) -> i64;
     safe fn runcedau_ceil_to_i64(x: f64) -> i64;
     safe fn runcedau_column_of(x: f64) -> u64;
@@ -32,6 +33,7 @@ fn is_threshold(b: f64, t: f64) -> bool {
 fn agree(x: f64, y: f64) -> bool {
     same(runcedau_root(x), x.sqrt())
         && is_threshold(x, runcedau_root_threshold(x))
+        && runcedau_cut_to_i64(x) == x as i64
         && runcedau_floor_to_i64(x) == x.floor() as i64
         && runcedau_ceil_to_i64(x) == x.ceil() as i64
         && runcedau_column_of(x) == column(x.floor() as i64)

@@ -1,14 +1,15 @@
--- `bias` computes `biased`. Assumes nothing.
-use mathlib.Core.Path.{_≡_, refl, ap, _∙_}
+-- `bias` computes `biased`, and the order of the tables' numbers is that of the columns. Assumes nothing.
+use mathlib.Core.Path.{_≡_, refl, sym, ap, _∙_}
 use Prim.Native.Nat.{ℕ, suc, _+_, _-_, _^_, _≤_, _<_, min}
 use native.Mathlib.Omega.{arith}
-use mathlib.Core.Bool.{Bool, true, false, cond, false≢true}
+use mathlib.Core.Logic.{⊎-elim}
+use mathlib.Core.Bool.{Bool, true, false, not, cond, false≢true}
 use lib.IntN.{ℤ, pos, negsuc, _+ℤ_}
 use lib.Signed.{ltZ, leZ, mag}
 use lib.Dec.{ltb, leb, le→leb, leb→le}
 use borrow.Author.Tests.{ltb-true, ltb-false, le-ltb, lt-ltb, lt-leb, le-leb}
 use Rattle.ieee.specs.Whole.{biased, unbias}
-use Rattle.ieee.proofs.Tools.{same-test}
+use Rattle.ieee.proofs.Tools.{same-test, lt-or-ge}
 
 pub bias-low : (z : ℤ) → ltZ z (negsuc 2147483647) ≡ true → 0 ≡ biased z
 bias-low (pos n) h = absurd (false≢true h)
@@ -45,6 +46,7 @@ biased-lt (negsuc n) = go n
     go n = omega arith
 
 -- ---- the order of the tables' numbers is that of the columns: an occupied column u, which is below 2 ^ 32 - 1, against any integer z, in the range or not
+-- z as the tables hold it is at most u exactly when z is at most the column of u: for a lower end, which is included
 pub biased-le-iff : (z : ℤ) (u : ℕ) → u < 2 ^ 32 - 1 → leb (biased z) u ≡ leZ z (unbias u)
 biased-le-iff z u h = go z (ltb u (2 ^ 31)) (ltb-true u (2 ^ 31)) (ltb-false u (2 ^ 31)) refl
   where
@@ -77,6 +79,20 @@ biased-le-iff z u h = go z (ltb u (2 ^ 31)) (ltb-true u (2 ^ 31)) (ltb-false u (
         (λ t. le→leb (2 ^ 31 - suc u) n (down n (f e) (leb→le (2 ^ 31 - suc n) u t)))
         (λ t. le→leb (2 ^ 31 - suc n) u (up n (f e) (leb→le (2 ^ 31 - suc u) n t)))
     go (negsuc n) false f g e = le-leb (2 ^ 31 - suc n) u (neg-high n (g e))
+
+-- a < b is the opposite of b ≤ a
+ltb-not : (a b : ℕ) → ltb a b ≡ not (leb b a)
+ltb-not a b = ⊎-elim (λ h. rw (lt-ltb a b h, lt-leb b a h)) (λ h. rw (le-ltb a b h, le-leb b a h)) (lt-or-ge a b)
+
+ltZ-not : (z w : ℤ) → ltZ z w ≡ not (leZ w z)
+ltZ-not (pos a) (pos b) = ltb-not a b
+ltZ-not (pos a) (negsuc b) = refl
+ltZ-not (negsuc a) (pos b) = refl
+ltZ-not (negsuc a) (negsuc b) = ltb-not b a
+
+-- u is below z as the tables hold it exactly when the column of u is below z: for an upper end, which is excluded
+pub biased-lt-iff : (z : ℤ) (u : ℕ) → u < 2 ^ 32 - 1 → ltb u (biased z) ≡ ltZ (unbias u) z
+biased-lt-iff z u h = ltb-not u (biased z) ∙ ap not (biased-le-iff z u h) ∙ sym (ltZ-not (unbias u) z)
 
 -- there and back
 pub biased-unbias : (u : ℕ) → u < 2 ^ 32 → biased (unbias u) ≡ u

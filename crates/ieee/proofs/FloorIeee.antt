@@ -1,6 +1,6 @@
 -- `floorZ` is Rust's `as i64` of IEEE 754's floor, and `ceilZ` of its ceiling, for every value of binary64. Assumes nothing.
 use mathlib.Core.Path.{_≡_, refl, sym, ap, _∙_, subst}
-use Prim.Native.Nat.{ℕ, zero, suc, _-_, _*_, _/_, _^_, _≤_, _<_, min}
+use Prim.Native.Nat.{ℕ, suc, _-_, _*_, _/_, _^_, _≤_, _<_, min}
 use native.Mathlib.Nat.{mul-one, mul-div-cancel}
 use native.Mathlib.Omega.{arith}
 use mathlib.Core.Bool.{Bool, true, false, true≢false, false≢true}
@@ -13,6 +13,7 @@ use lib.Ieee.Back.{round-whole}
 use borrow.Author.Tests.{ltb-true, ltb-false}
 use Rattle.ieee.specs.Whole.{ceilDiv, sat, floorZ, ceilZ, floorF, ceilF}
 use Rattle.ieee.proofs.Tools.{held}
+use Rattle.ieee.proofs.Cut.{neg-sat}
 use Rattle.ieee.proofs.Floor.{cut-exact, has-rest, no-rest, rest-small}
 
 -- the magnitude rounded up is a value of the format too
@@ -42,13 +43,6 @@ cast-pos : (x : Float) (n : ℕ) → HasValue x false n 1 → sat (pos n) ≡ to
 unfolding toSigned
 cast-pos (fin true m e) n v = absurd (true≢false (v .0))
 cast-pos (fin false m e) n v = ap (λ (k : ℕ). pos (min k (2 ^ 63 - 1))) (sym (size-of m e n (v .1)))
-
-neg-sat : (n : ℕ) → sat (negℤ (pos n)) ≡ negℤ (pos (min n (2 ^ 63)))
-neg-sat zero = refl
-neg-sat (suc n) = ap (λ (k : ℕ). negℤ (pos k)) (sym (go n))
-  where
-    go : (n : ℕ) → min (suc n) (2 ^ 63) ≡ suc (min n (2 ^ 63 - 1))
-    go n = omega arith
 
 cast-neg : (x : Float) (n : ℕ) → HasValue x true n 1 → sat (negℤ (pos n)) ≡ toSigned 63 x
 unfolding toSigned

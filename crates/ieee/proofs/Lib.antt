@@ -1,6 +1,7 @@
 -- Laws on plain numbers, Bools and floats that the proofs share.
 pub mod Bias
 pub mod Compare
+pub mod Cut
 pub mod Determinate
 pub mod Dyadic
 pub mod DyadicFloor

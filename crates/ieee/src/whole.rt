@@ -1,19 +1,15 @@
-// A float's floor and ceiling as an integer.
+// A float's whole part, floor and ceiling as an integer.
 ghost use mathlib.Core.Path.{_≡_};
+ghost use lib.Ieee.{toSigned};
 ghost use Rattle.ieee.specs.Whole.{floorZ, ceilZ, biased};
 
-// Rust's `x.floor() as i64`.
-pub fn floor_to_i64(x: f64) -> i64
-    ensures { λ r. ⌜ r ≡ floorZ x ⌝ }
+// Rust's `x as i64`: toward zero, to the nearer end of the range where it is out of it, 0 for a NaN.
+pub fn cut_to_i64(x: f64) -> i64
+    ensures { λ r. ⌜ r ≡ toSigned 63 x ⌝ }
 {
     if x >= -9223372036854775808.0 {
         if x < 9223372036854775808.0 {
-            let t = std::num::truncating_f64_to_i64(x);
-            let back = std::num::nearest_i64_to_f64(t);
-            if x < back {
-                return t - 1;
-            }
-            return t;
+            return std::num::truncating_f64_to_i64(x);
         }
         return 9223372036854775807;
     }
@@ -23,25 +19,30 @@ pub fn floor_to_i64(x: f64) -> i64
     -9223372036854775808
 }
 
+// Rust's `x.floor() as i64`.
+pub fn floor_to_i64(x: f64) -> i64
+    ensures { λ r. ⌜ r ≡ floorZ x ⌝ }
+{
+    let t = cut_to_i64(x);
+    if x < std::num::nearest_i64_to_f64(t) {
+        if -9223372036854775808 < t {
+            return t - 1;
+        }
+    }
+    t
+}
+
 // Rust's `x.ceil() as i64`.
 pub fn ceil_to_i64(x: f64) -> i64
     ensures { λ r. ⌜ r ≡ ceilZ x ⌝ }
 {
-    if x >= -9223372036854775808.0 {
-        if x < 9223372036854775808.0 {
-            let t = std::num::truncating_f64_to_i64(x);
-            let back = std::num::nearest_i64_to_f64(t);
-            if back < x {
-                return t + 1;
-            }
-            return t;
+    let t = cut_to_i64(x);
+    if std::num::nearest_i64_to_f64(t) < x {
+        if t < 9223372036854775807 {
+            return t + 1;
         }
-        return 9223372036854775807;
     }
-    if x != x {
-        return 0;
-    }
-    -9223372036854775808
+    t
 }
 
 // A column as the tables hold it.

@@ -1,5 +1,6 @@
 // The float steps under C names, for Rust and C to call: benchmarks and comparisons go through here.
 ghost use mathlib.Core.Path.{_≡_};
+ghost use lib.Ieee.{toSigned};
 ghost use Rattle.ieee.specs.Pick.{absF, minF, maxF};
 ghost use Rattle.ieee.specs.Root.{rootF};
 ghost use Rattle.ieee.specs.Threshold.{Threshold};
@@ -17,6 +18,13 @@ pub extern "C" fn runcedau_root_threshold(x: f64) -> f64
     ensures { λ r. ⌜ Threshold x r ⌝ }
 {
     ieee::threshold::root_threshold(x)
+}
+
+#[no_mangle]
+pub extern "C" fn runcedau_cut_to_i64(x: f64) -> i64
+    ensures { λ r. ⌜ r ≡ toSigned 63 x ⌝ }
+{
+    ieee::whole::cut_to_i64(x)
 }
 
 #[no_mangle]

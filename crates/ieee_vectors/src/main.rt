@@ -63,6 +63,7 @@ fn signed(n: i64) -> u64 {
 fn answer(function: u8, x: f64, y: f64) -> u64 {
     match function {
         b'r' => pattern_of(ieee::root::root(x)),
+        b'i' => signed(ieee::whole::cut_to_i64(x)),
         b'f' => signed(ieee::whole::floor_to_i64(x)),
         b'c' => signed(ieee::whole::ceil_to_i64(x)),
         b'd' => ieee::whole::column_of(x),

@@ -45,6 +45,7 @@ fn threshold(b: f64) -> f64 {
 fn answer(function: char, x: f64, y: f64) -> u64 {
     match function {
         'r' => pattern(x.sqrt()),
+        'i' => (x as i64) as u64,
         'f' => (x.floor() as i64) as u64,
         'c' => (x.ceil() as i64) as u64,
         'd' => column(x.floor() as i64),
@@ -113,7 +114,7 @@ fn main() {
     let mut random = Random(88_172_645_463_325_252);
     let mut vectors: Vec<(char, u64, u64)> = Vec::new();
     vectors.extend(roots(&mut random).into_iter().map(|x| ('r', x, 0)));
-    for (function, count) in [('f', 300), ('c', 300), ('d', 80), ('u', 80), ('a', 20), ('t', 300)] {
+    for (function, count) in [('i', 100), ('f', 300), ('c', 300), ('d', 80), ('u', 80), ('a', 20), ('t', 300)] {
         vectors.extend(reals(&mut random, count).into_iter().map(|x| (function, x, 0)));
     }
     // which zero comes of two zeros is open (docs/DIFFERENCES.md), so they are left out
