@@ -1,25 +1,11 @@
 //! The proved float steps against the machine's own, on as many random values as the argument says
 //! (three kinds of each). Prints the count and how many answers differ.
-unsafe extern "C" {
-    safe fn runcedau_root(x: f64) -> f64;
-    safe fn runcedau_root_threshold(x: f64) -> f64;
-    safe fn runcedau_cut_to_i64(x: f64) -> i64;
-    safe fn runcedau_floor_to_i64(x: f64) -> i64;
-    safe fn runcedau_ceil_to_i64(x: f64) -> i64;
-    safe fn runcedau_column_of(x: f64) -> u64;
-    safe fn runcedau_column_up(x: f64) -> u64;
-    safe fn runcedau_abs(x: f64) -> f64;
-    safe fn runcedau_min(a: f64, b: f64) -> f64;
-    safe fn runcedau_max(a: f64, b: f64) -> f64;
-}
+use bench::*;
+use oracle::{column, Random};
 
 /// Bit for bit, any NaN for any NaN.
 fn same(a: f64, b: f64) -> bool {
     a.to_bits() == b.to_bits() || a.is_nan() && b.is_nan()
-}
-
-fn column(n: i64) -> u64 {
-    (n.clamp(-(1 << 31), (1 << 31) - 1) + (1 << 31)) as u64
 }
 
 /// t is the least value whose root is at least b: its root is, and that of the value before is not.
@@ -39,18 +25,16 @@ fn agree(x: f64, y: f64) -> bool {
         && runcedau_column_of(x) == column(x.floor() as i64)
         && runcedau_column_up(x) == column(x.ceil() as i64)
         && same(runcedau_abs(x), x.abs())
-        && (x == 0.0 && y == 0.0 || same(runcedau_min(x, y), x.min(y)) && same(runcedau_max(x, y), x.max(y)))
+        && (x == 0.0 && y == 0.0
+            || same(runcedau_min(x, y), x.min(y)) && same(runcedau_max(x, y), x.max(y)))
 }
 
 fn main() {
-    let count: u64 = std::env::args().nth(1).map_or(1_000_000, |word| word.parse().expect("a count"));
-    let mut state = 88_172_645_463_325_252u64;
-    let mut next = || {
-        state ^= state << 13;
-        state ^= state >> 7;
-        state ^= state << 17;
-        state
-    };
+    let count: u64 = std::env::args()
+        .nth(1)
+        .map_or(1_000_000, |word| word.parse().expect("a count"));
+    let mut random = Random::default();
+    let mut next = || random.next();
     let (mut before, mut different) = (1.5, 0);
     for _ in 0..count {
         let any = f64::from_bits(next());

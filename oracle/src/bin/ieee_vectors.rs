@@ -1,32 +1,20 @@
 //! Writes the vectors that the program `ieee_vectors` replays: `stdin` (function and operands) and
 //! `stdout` (the same with the answer of the machine's own function behind it), into the folder
 //! that is its one argument. The list is the same on every run.
+use oracle::{column, Random};
 use std::fmt::Write;
 
 const SIGN: u64 = 1 << 63;
 const INFINITY: u64 = 2047 << 52;
 const NAN: u64 = 0x7ff8_0000_0000_0000;
 
-struct Random(u64);
-
-impl Random {
-    /// Marsaglia's xorshift with the shifts 13, 7 and 17.
-    fn next(&mut self) -> u64 {
-        self.0 ^= self.0 << 13;
-        self.0 ^= self.0 >> 7;
-        self.0 ^= self.0 << 17;
-        self.0
-    }
-}
-
 /// One pattern stands for every NaN.
 fn pattern(x: f64) -> u64 {
-    if x.is_nan() { NAN } else { x.to_bits() }
-}
-
-/// A column as the tables hold it.
-fn column(n: i64) -> u64 {
-    (n.clamp(-(1 << 31), (1 << 31) - 1) + (1 << 31)) as u64
+    if x.is_nan() {
+        NAN
+    } else {
+        x.to_bits()
+    }
 }
 
 /// The least value whose root is at least b, by bisection over the patterns from +0 to infinity.
@@ -37,7 +25,11 @@ fn threshold(b: f64) -> f64 {
     let (mut low, mut high) = (0, INFINITY);
     while low < high {
         let middle = low + (high - low) / 2;
-        if b <= f64::from_bits(middle).sqrt() { high = middle } else { low = middle + 1 }
+        if b <= f64::from_bits(middle).sqrt() {
+            high = middle
+        } else {
+            low = middle + 1
+        }
     }
     f64::from_bits(high)
 }
@@ -60,8 +52,21 @@ fn answer(function: char, x: f64, y: f64) -> u64 {
 
 /// Values at which a float function goes wrong first, of both signs.
 fn special() -> Vec<u64> {
-    let mut list = vec![0, 1, 2, 3, (1 << 52) - 1, 1 << 52, (1 << 52) + 1, INFINITY - 1, INFINITY, NAN];
-    for x in [0.5, 1.0, 1.5, 2.0, 2.5, 1e-8, 1.4143, 256.0, 65_536.0, 1e308] {
+    let mut list = vec![
+        0,
+        1,
+        2,
+        3,
+        (1 << 52) - 1,
+        1 << 52,
+        (1 << 52) + 1,
+        INFINITY - 1,
+        INFINITY,
+        NAN,
+    ];
+    for x in [
+        0.5, 1.0, 1.5, 2.0, 2.5, 1e-8, 1.4143, 256.0, 65_536.0, 1e308,
+    ] {
         list.extend([f64::to_bits(x) - 1, f64::to_bits(x), f64::to_bits(x) + 1]);
     }
     // where the fraction ends, where a column ends, where an i64 ends
@@ -80,7 +85,11 @@ fn special() -> Vec<u64> {
 fn square(random: &mut Random) -> u64 {
     let root = random.next() >> (12 + random.next() % 40);
     let (whole, middle) = (root as u128, 2 * (root as u128) + 1);
-    let n = if random.next() % 2 == 0 { whole * whole } else { middle * middle };
+    let n = if random.next() % 2 == 0 {
+        whole * whole
+    } else {
+        middle * middle
+    };
     let power = (random.next() % 1000) as i32 - 500;
     (n as f64 * 2f64.powi(power)).to_bits() + random.next() % 3 - 1
 }
@@ -111,11 +120,23 @@ fn reals(random: &mut Random, count: usize) -> Vec<u64> {
 
 fn main() {
     let folder = std::env::args().nth(1).expect("the folder to write to");
-    let mut random = Random(88_172_645_463_325_252);
+    let mut random = Random::default();
     let mut vectors: Vec<(char, u64, u64)> = Vec::new();
     vectors.extend(roots(&mut random).into_iter().map(|x| ('r', x, 0)));
-    for (function, count) in [('i', 100), ('f', 300), ('c', 300), ('d', 80), ('u', 80), ('a', 20), ('t', 300)] {
-        vectors.extend(reals(&mut random, count).into_iter().map(|x| (function, x, 0)));
+    for (function, count) in [
+        ('i', 100),
+        ('f', 300),
+        ('c', 300),
+        ('d', 80),
+        ('u', 80),
+        ('a', 20),
+        ('t', 300),
+    ] {
+        vectors.extend(
+            reals(&mut random, count)
+                .into_iter()
+                .map(|x| (function, x, 0)),
+        );
     }
     // which zero comes of two zeros is open (docs/DIFFERENCES.md), so they are left out
     let zero = |x: u64| x & !SIGN == 0;

@@ -1,0 +1,24 @@
+//! What the proved code is compared with, and what the comparisons share.
+
+/// Marsaglia's xorshift with the shifts 13, 7 and 17: the same numbers on every run.
+pub struct Random(u64);
+
+impl Default for Random {
+    fn default() -> Self {
+        Random(88_172_645_463_325_252)
+    }
+}
+
+impl Random {
+    pub fn next(&mut self) -> u64 {
+        self.0 ^= self.0 << 13;
+        self.0 ^= self.0 >> 7;
+        self.0 ^= self.0 << 17;
+        self.0
+    }
+}
+
+/// A column as the tables hold it: 2^31 more, brought to the range of 32 bits.
+pub fn column(n: i64) -> u64 {
+    (n.clamp(-(1 << 31), (1 << 31) - 1) + (1 << 31)) as u64
+}
