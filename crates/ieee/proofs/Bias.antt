@@ -2,14 +2,13 @@
 use mathlib.Core.Path.{_≡_, refl, sym, ap, _∙_}
 use Prim.Native.Nat.{ℕ, suc, _+_, _-_, _^_, _≤_, _<_, min}
 use native.Mathlib.Omega.{arith}
-use mathlib.Core.Logic.{⊎-elim}
 use mathlib.Core.Bool.{Bool, true, false, not, cond, false≢true}
 use lib.IntN.{ℤ, pos, negsuc, _+ℤ_}
 use lib.Signed.{ltZ, leZ, mag}
 use lib.Dec.{ltb, leb, le→leb, leb→le}
 use borrow.Author.Tests.{ltb-true, ltb-false, le-ltb, lt-ltb, lt-leb, le-leb}
 use Rattle.ieee.specs.Whole.{biased, unbias}
-use Rattle.ieee.proofs.Tools.{same-test, lt-or-ge}
+use Rattle.ieee.proofs.Tools.{same-test, ltb-not}
 
 pub bias-low : (z : ℤ) → ltZ z (negsuc 2147483647) ≡ true → 0 ≡ biased z
 bias-low (pos n) h = absurd (false≢true h)
@@ -79,10 +78,6 @@ biased-le-iff z u h = go z (ltb u (2 ^ 31)) (ltb-true u (2 ^ 31)) (ltb-false u (
         (λ t. le→leb (2 ^ 31 - suc u) n (down n (f e) (leb→le (2 ^ 31 - suc n) u t)))
         (λ t. le→leb (2 ^ 31 - suc n) u (up n (f e) (leb→le (2 ^ 31 - suc u) n t)))
     go (negsuc n) false f g e = le-leb (2 ^ 31 - suc n) u (neg-high n (g e))
-
--- a < b is the opposite of b ≤ a
-ltb-not : (a b : ℕ) → ltb a b ≡ not (leb b a)
-ltb-not a b = ⊎-elim (λ h. rw (lt-ltb a b h, lt-leb b a h)) (λ h. rw (le-ltb a b h, le-leb b a h)) (lt-or-ge a b)
 
 ltZ-not : (z w : ℤ) → ltZ z w ≡ not (leZ w z)
 ltZ-not (pos a) (pos b) = ltb-not a b

@@ -1,7 +1,7 @@
--- Floor and ceiling of a float that is (a - b) / 2 ^ j: the floor as the integers' division that rounds down, the ceiling where it is not negative. Assumes nothing.
+-- The floor of a float that is (a - b) / 2 ^ j is the integers' division that rounds down. Assumes nothing.
 use mathlib.Core.Path.{_≡_, refl, sym, ap, _∙_}
-use Prim.Native.Nat.{ℕ, zero, suc, _+_, _-_, _*_, _/_, _%_, _^_, _≤_, _<_, min, zero-le}
-use native.Mathlib.Nat.{le-of-eq, lt-of-le-of-lt, mul-right-comm, add-zero, suc-mul, div-add-mod', mod-lt, eq-of-mul-eq-mul-right, zero-add, div-eq-of-lt, mod-eq-of-lt, div-le-self}
+use Prim.Native.Nat.{ℕ, zero, suc, _+_, _-_, _*_, _/_, _%_, _^_, _≤_, _<_, min}
+use native.Mathlib.Nat.{lt-of-le-of-lt, mul-right-comm, add-zero, suc-mul, div-add-mod', mod-lt, eq-of-mul-eq-mul-right, div-eq-of-lt, mod-eq-of-lt, div-le-self}
 use native.Mathlib.Numerals.{add-one}
 use native.Mathlib.Omega.{arith}
 use mathlib.Core.Bool.{Bool, true, false, cond}
@@ -14,7 +14,7 @@ use lib.Arith.{digits-div, digits-mod}
 use lib.Ieee.{Float, nan, inf, fin, up, down}
 use lib.Ieee.Fits.{down-pos, eq→eqb}
 use lib.Ieee.Nearest.{div-same}
-use Rattle.ieee.specs.Whole.{ceilDiv, downZ, upZ, sat, floorZ, ceilZ}
+use Rattle.ieee.specs.Whole.{ceilDiv, downZ, sat, floorZ}
 use Rattle.ieee.proofs.Tools.{same-test}
 use Rattle.ieee.proofs.Dyadic.{Off, Is, off-lt}
 
@@ -55,46 +55,11 @@ down-is : (s : Bool) (a b c d : ℕ) → 0 < b → 0 < d → a * d ≡ c * b →
 down-is false a b c d B D e = ap pos (div-same a b c d B D e)
 down-is true a b c d B D e = ap (λ (n : ℕ). negℤ (pos n)) (ceil-same a b c d B D e)
 
-up-is : (s : Bool) (a b c d : ℕ) → 0 < b → 0 < d → a * d ≡ c * b → upZ s a b ≡ upZ s c d
-up-is false a b c d B D e = ap pos (ceil-same a b c d B D e)
-up-is true a b c d B D e = ap (λ (n : ℕ). negℤ (pos n)) (div-same a b c d B D e)
+-- ---- a / l rounded up, from what is one less
+pub ceil-zero : (l : ℕ) → 0 < l → ceilDiv 0 l ≡ 0
+ceil-zero l h = ap (λ (n : ℕ). n + cond (eqb (0 % l) 0) 0 1) (div-eq-of-lt h) ∙ ap (λ (n : ℕ). 0 + cond (eqb n 0) 0 1) (mod-eq-of-lt h)
 
--- a float that is not negative, as an integer
-ceil-small : (a l : ℕ) → a < 2 ^ 62 → sat (pos (ceilDiv a l)) ≡ pos (ceilDiv a l)
-ceil-small a l h = ap pos (go (a / l) (cond (eqb (a % l) 0) 0 1) (div-le-self a l) (one (eqb (a % l) 0)))
-  where
-    one : (b : Bool) → cond b 0 1 ≤ 1
-    one true = zero-le
-    one false = le-of-eq refl
-
-    go : (q r : ℕ) → q ≤ a → r ≤ 1 → min (q + r) (2 ^ 63 - 1) ≡ q + r
-    go q r x y = omega arith
-
-zero-ceil : (l : ℕ) → 0 < l → pos 0 ≡ pos (ceilDiv 0 l)
-zero-ceil l h = ap pos (sym (ap (λ (n : ℕ). n + cond (eqb (0 % l) 0) 0 1) (div-eq-of-lt h) ∙ ap (λ (n : ℕ). 0 + cond (eqb n 0) 0 1) (mod-eq-of-lt h)))
-
-nat-ceil : (s : Bool) (x a l : ℕ) → 0 < l → Off s x a 0 → a < 2 ^ 62 → sat (upZ s x l) ≡ pos (ceilDiv a l)
-nat-ceil false x a l L o h = ap (λ (n : ℕ). sat (pos (ceilDiv n l))) (sym (o ∙ zero-add x)) ∙ ceil-small a l h
-nat-ceil true x a l L o h =
-    ap (λ (n : ℕ). sat (negℤ (pos (n / l)))) (both a x o .1)
-    ∙ ap (λ (n : ℕ). sat (negℤ (pos n))) (div-eq-of-lt L)
-    ∙ zero-ceil l L
-    ∙ ap (λ (n : ℕ). pos (ceilDiv n l)) (sym (both a x o .0))
-  where
-    both : (a x : ℕ) → 0 ≡ a + x → (a ≡ 0) × (x ≡ 0)
-    both a x h = (omega arith, omega arith)
-
-pub ceil-nat : (x : Float) (a j : ℕ) → Is x a 0 j → a < 2 ^ 62 → ceilZ x ≡ pos (ceilDiv a (2 ^ j))
-unfolding ceilZ
-ceil-nat nan a j h k = absurd (h .value)
-ceil-nat (inf t) a j h k = absurd (h .value)
-ceil-nat (fin t m e) a j h k =
-    ap (λ (s : Bool). sat (upZ s (m * up e) (down e))) (h .value .0)
-    ∙ ap sat (up-is (h .sign) (m * up e) (down e) (h .size) (2 ^ j) (down-pos e) (pow-pos j) (h .value .1))
-    ∙ nat-ceil (h .sign) (h .size) a (2 ^ j) (pow-pos j) (h .off) k
-
--- ---- floor as the integers' division that rounds down
-ceil-suc : (y l : ℕ) → 0 < l → ceilDiv (suc y) l ≡ suc (y / l)
+pub ceil-suc : (y l : ℕ) → 0 < l → ceilDiv (suc y) l ≡ suc (y / l)
 ceil-suc y l L = go (y % l) refl (ltb (suc (y % l)) l) refl
   where
     q : ℕ
@@ -113,6 +78,7 @@ ceil-suc y l L = go (y % l) refl (ltb (suc (y % l)) l) refl
     go r e true h = ap (λ (n : ℕ). ceilDiv n l) (split r e) ∙ ceil-digits (y / l) (suc r) l (ltb-true (suc r) l h) ∙ ap (λ (n : ℕ). y / l + n) (pos→false r) ∙ add-one (y / l)
     go r e false h = ap (λ (n : ℕ). ceilDiv n l) (whole r e (last r e (ltb-false (suc r) l h))) ∙ ceil-digits (suc (y / l)) 0 l L ∙ add-zero (suc (y / l))
 
+-- ---- floor as the integers' division that rounds down
 sub-pos : (a b x : ℕ) → a ≡ b + x → subℕ a b ≡ pos x
 sub-pos a b x h = ap (λ (t : Bool). cond t (negsuc (b - suc a)) (pos (a - b))) (le-ltb a b (le a b x h)) ∙ ap pos (go a b x h)
   where
@@ -137,10 +103,7 @@ fit q h = omega arith
 int-floor : (s : Bool) (x a b l : ℕ) → 0 < l → x < 2 ^ 63 → Off s x a b → sat (downZ s x l) ≡ shrZ (subℕ a b) l
 int-floor false x a b l L h o = ap pos (fit (x / l) (lt-of-le-of-lt (div-le-self x l) h)) ∙ sym (ap (λ (z : ℤ). shrZ z l) (sub-pos a b x o))
 int-floor true zero a b l L h o =
-    ap (λ (n : ℕ). sat (negℤ (pos n))) (zero-ceil' l L) ∙ sym (ap (λ (z : ℤ). shrZ z l) (sub-pos a b 0 (sym (o ∙ add-zero a) ∙ sym (add-zero b))) ∙ ap pos (div-eq-of-lt L))
-  where
-    zero-ceil' : (l : ℕ) → 0 < l → ceilDiv 0 l ≡ 0
-    zero-ceil' l h = ap (λ (n : ℕ). n + cond (eqb (0 % l) 0) 0 1) (div-eq-of-lt h) ∙ ap (λ (n : ℕ). 0 + cond (eqb n 0) 0 1) (mod-eq-of-lt h)
+    ap (λ (n : ℕ). sat (negℤ (pos n))) (ceil-zero l L) ∙ sym (ap (λ (z : ℤ). shrZ z l) (sub-pos a b 0 (sym (o ∙ add-zero a) ∙ sym (add-zero b))) ∙ ap pos (div-eq-of-lt L))
 int-floor true (suc x) a b l L h o =
     ap (λ (n : ℕ). sat (negℤ (pos n))) (ceil-suc x l L)
     ∙ ap negsuc (fit (x / l) (lt-of-le-of-lt (div-le-self x l) (less x h)))

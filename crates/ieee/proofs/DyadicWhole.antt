@@ -1,7 +1,7 @@
 -- Floats that are exactly an integer over a power of two. `IsZ x z j` says that x is z / 2 ^ j; its floor and its ceiling are then the integers' divisions. Assumes nothing.
 use mathlib.Core.Path.{_≡_, refl, sym, ap, _∙_, subst}
 use Prim.Native.Nat.{ℕ, zero, suc, _+_, _-_, _*_, _/_, _^_, _≤_, _<_, min}
-use native.Mathlib.Nat.{mul-one, mul-le-mul-left, le-trans, le-of-eq, le-of-lt, lt-of-mul-lt-mul-right, suc-mul, div-mul-le-self, le-of-mul-le-mul-right}
+use native.Mathlib.Nat.{mul-one, mul-le-mul-left, le-trans, le-of-eq, le-of-lt, lt-of-mul-lt-mul-right, suc-mul, div-mul-le-self, le-of-mul-le-mul-right, div-eq-of-lt}
 use native.Mathlib.Omega.{arith}
 use mathlib.Core.Bool.{Bool, true, false, not}
 use lib.IntN.{ℤ, pos, negsuc, negℤ, negℤ-negℤ, _+ℤ_}
@@ -16,7 +16,7 @@ use Rattle.ieee.specs.Whole.{ceilDiv, downZ, upZ, sat, floorZ, ceilZ}
 use Rattle.ieee.specs.Yard.{divZ, upDivZ}
 use Rattle.ieee.proofs.Integers.{ups, downs, neg-ups, neg-downs, add-parts, int-of-parts, ceil-rest}
 use Rattle.ieee.proofs.Dyadic.{Off, Is, off-lt, is-nat, is-neg, is-shift, is-add, is-minus}
-use Rattle.ieee.proofs.DyadicFloor.{floor-int}
+use Rattle.ieee.proofs.DyadicFloor.{ceil-zero, ceil-suc, floor-int}
 
 abbrev pub IsZ : Float → ℤ → ℕ → Type 0
 IsZ x z j = Is x (ups z) (downs z) j
@@ -109,3 +109,11 @@ ceil-whole x z j p v =
     let u = neg-ups z in
     let d = neg-downs z in
     ceil-neg x (ups z) (downs z) j (p .0) (p .1) v ∙ ap negℤ (floor-whole (neg x) (negℤ z) j (omega arith, omega arith) (neg-int x z j v))
+
+-- of a number that is not negative it is the naturals' division, rounded up
+pub ceil-nat : (x : Float) (a j : ℕ) → Is x a 0 j → a < 2 ^ 62 → ceilZ x ≡ pos (ceilDiv a (2 ^ j))
+ceil-nat x a j v h = ceil-whole x (pos a) j (h, pow-pos 62) v ∙ go a
+  where
+    go : (a : ℕ) → upDivZ (pos a) (2 ^ j) ≡ pos (ceilDiv a (2 ^ j))
+    go zero = ap (λ (n : ℕ). negℤ (pos n)) (div-eq-of-lt (pow-pos j)) ∙ ap pos (sym (ceil-zero (2 ^ j) (pow-pos j)))
+    go (suc a) = ap pos (sym (ceil-suc a (2 ^ j) (pow-pos j)))

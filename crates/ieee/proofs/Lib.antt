@@ -20,6 +20,7 @@ pub mod RootLoop
 pub mod RootNearest
 pub mod RootOrder
 pub mod RootScaled
+pub mod Signs
 pub mod Squares
 pub mod Thresholds
 pub mod Tools

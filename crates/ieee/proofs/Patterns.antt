@@ -5,7 +5,7 @@ use Prim.Native.Nat.{ℕ, zero, suc, _+_, _-_, _*_, _/_, _%_, _^_, _≤_, _<_, z
 use native.Mathlib.Nat.{le-trans, le-of-eq, le-of-lt, lt-of-lt-of-le, eq-or-lt-of-le, zero-add, add-zero, zero-mul, mul-one, mul-comm, mul-assoc, mul-right-comm, mul-pos, mul-le-mul-left, mul-le-mul-right, mul-lt-mul-of-pos-right}
 use native.Mathlib.Omega.{arith}
 use mathlib.Core.Logic.{⊎-elim}
-use mathlib.Core.Bool.{Bool, true, false, not, _&&_, _||_, true≢false, false≢true}
+use mathlib.Core.Bool.{Bool, true, false, not, _&&_, _||_, and-false, true≢false, false≢true}
 use lib.IntN.{ℤ, pos}
 use lib.Dec.{T, leb, ltb, eqb, eqb→eq, eqb·zero-suc, eqb·suc-zero, lit≤}
 use lib.Pow.{pow-add, pow-pos, pow-mono}
@@ -13,14 +13,13 @@ use lib.Ieee.{Float, nan, inf, fin, binary64, up, down, lt, eq, le, isNan, fits,
 use lib.Ieee.Fits.{down-pos}
 use lib.Ieee.Bits.{is-false, ofBits-toBits, nanBits-is}
 use lib.Ieee.Exact.{HasValue}
-use borrow.Author.Tests.{not-true, leb-true, ltb-true, lt-ltb, le-ltb, le-leb, lt-leb, eq-eqb}
+use borrow.Author.Tests.{not-true, leb-true, ltb-true, lt-ltb, le-ltb, eq-eqb}
 use Rattle.ieee.specs.Constants.{nought}
 use Rattle.ieee.specs.RootSteps.{bitUnits}
-use Rattle.ieee.proofs.Tools.{same-test, lt-or-ge, not-both, T-true, ltb-scale}
+use Rattle.ieee.proofs.Tools.{same-test, lt-or-ge, leb-not, some-by, not-both, T-true, ltb-scale}
 use Rattle.ieee.proofs.Compare.{both-pos}
-use Rattle.ieee.proofs.Picks.{zero-exp}
 use Rattle.ieee.proofs.RootBits.{units-low, units-high, bits-value, bits-under, no-nan-bits}
-use Rattle.ieee.proofs.RootCases.{not-below, is-below}
+use Rattle.ieee.proofs.Signs.{not-below, is-below, zero-exp}
 
 -- ---- the number of units grows with the pattern
 -- of two numbers with 53 digits before their shifts, the one that is moved less is below
@@ -114,15 +113,8 @@ lt-values (fin false m e) (fin false n d) a b c C p q =
     ∙ ltb-scale a b (down e * down d) (mul-pos (down-pos e) (down-pos d))
 
 -- ---- `x <= y` is the negation of `y < x`, where neither is a NaN
-leb-not : (a b : ℕ) → not (ltb b a) ≡ leb a b
-leb-not a b = ⊎-elim (λ h. rw (lt-ltb b a h, lt-leb a b h)) (λ h. rw (le-ltb b a h, le-leb a b h)) (lt-or-ge b a)
-
 either : (a b : ℕ) → ltb a b || (eqb a b && true) ≡ not (ltb b a)
 either a b = both-pos a b ∙ sym (leb-not a b)
-
-and-false : (t : Bool) → t && false ≡ false
-and-false true = refl
-and-false false = refl
 
 -- where the signs differ, two sizes are level only where both are zero
 both-none : (a b : ℕ) → eqb a b && eqb a 0 ≡ not (ltb 0 (b + a))
@@ -160,12 +152,6 @@ le-not (fin true m e) (fin true n d) p q = flipped (m * up e * down d) (n * up d
         turn a b t = T-true (eq-eqb b a (sym (eqb→eq a b t)))
 
 -- a NaN is neither below anything nor above it
-pub lt-nan : (x : Float) → lt x nan ≡ false
-unfolding lt
-lt-nan nan = refl
-lt-nan (inf s) = refl
-lt-nan (fin s m e) = refl
-
 pub le-nan : (x : Float) → le x nan ≡ false
 unfolding le lt eq
 le-nan nan = refl
@@ -182,21 +168,12 @@ is-nan-is nan h = refl
 is-nan-is (inf s) h = absurd (false≢true h)
 is-nan-is (fin s m e) h = absurd (false≢true h)
 
-some-by : (x : Float) (t : Bool) → (x ≡ nan → t ≡ false) → t ≡ true → isNan x ≡ false
-unfolding isNan
-some-by nan t f h = not-both h (f refl)
-some-by (inf s) t f h = refl
-some-by (fin s m e) t f h = refl
-
 -- what compares as true is no NaN
 pub le-some-left : (x y : Float) → le x y ≡ true → isNan x ≡ false
 le-some-left x y h = some-by x (le x y) (λ e. ap (λ (z : Float). le z y) e ∙ nan-le y) h
 
 pub le-some-right : (x y : Float) → le x y ≡ true → isNan y ≡ false
 le-some-right x y h = some-by y (le x y) (λ e. ap (λ (z : Float). le x z) e ∙ le-nan x) h
-
-pub lt-some-right : (x y : Float) → lt x y ≡ true → isNan y ≡ false
-lt-some-right x y h = some-by y (lt x y) (λ e. ap (λ (z : Float). lt x z) e ∙ lt-nan x) h
 
 -- ---- the values of two patterns compare as the patterns do
 inf-lt : (y : Float) → lt (inf false) y ≡ false

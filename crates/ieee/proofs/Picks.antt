@@ -1,22 +1,15 @@
 -- What the tests in `abs`, `min` and `max` tell. Assumes nothing.
 use mathlib.Core.Path.{_≡_, refl, sym, ap, _∙_, subst}
-use Prim.Native.Nat.{ℕ, zero, suc, _+_, _*_, _^_, _≤_, _<_}
-use native.Mathlib.Nat.{mul-one, one-mul, zero-mul, mul-pos, zero-lt-suc, pow-succ'}
-use native.Mathlib.Omega.{arith}
+use Prim.Native.Nat.{zero, suc}
 use mathlib.Core.Bool.{Bool, true, false, cond, true≢false, false≢true}
-use lib.IntN.{ℤ, pos, negsuc}
-use lib.Dec.{T, eqb, eqb→eq, ltb→lt}
-use lib.Pow.{pow-pos}
-use lib.Ieee.{Float, nan, inf, fin, binary64, up, down, neg, lt, eq, ne, isNan, fits}
-use lib.Ieee.Fits.{and-l, up-pos}
+use lib.IntN.{ℤ}
+use lib.Dec.{T}
+use lib.Ieee.{Float, nan, inf, fin, binary64, neg, lt, eq, ne, isNan, fits}
 use lib.Ieee.Compare.{differs-from-itself, nan-differs}
-use borrow.Author.Tests.{ltb-false}
 use Rattle.ieee.specs.Constants.{nought}
 use Rattle.ieee.specs.Pick.{absF}
 use Rattle.ieee.proofs.Tools.{T-true, not-both}
-
-none-below : (a b : ℕ) → b ≡ 0 → a < b → ⊥
-none-below a b z h = omega arith
+use Rattle.ieee.proofs.Signs.{not-below, is-below, not-level, zero-exp}
 
 pub abs-below : (x : Float) → lt x nought ≡ true → neg x ≡ absF x
 unfolding lt neg absF
@@ -24,30 +17,14 @@ abs-below nan h = refl
 abs-below (inf true) h = refl
 abs-below (inf false) h = absurd (false≢true h)
 abs-below (fin true m e) h = refl
-abs-below (fin false m e) h = absurd (none-below (m * up e * 1) (0 * down e) (zero-mul (down e)) (ltb→lt (m * up e * 1) (0 * down e) (T-true h)))
-
-two-up : (p : ℕ) → 0 < p → 2 * p ≡ 1 → ⊥
-two-up p h e = omega arith
-
-flat : (e : ℤ) → up e * down e ≡ 1 → e ≡ pos 0
-flat (pos zero) h = refl
-flat (pos (suc k)) h = absurd (two-up (2 ^ k) (pow-pos k) (sym (pow-succ' 2 k) ∙ sym (mul-one (2 ^ suc k)) ∙ h))
-flat (negsuc k) h = absurd (two-up (2 ^ k) (pow-pos k) (sym (pow-succ' 2 k) ∙ sym (one-mul (2 ^ suc k)) ∙ h))
-
-pub zero-exp : (s : Bool) (e : ℤ) → T (fits binary64 (fin s zero e)) → e ≡ pos 0
-unfolding fits
-zero-exp s e t = flat e (eqb→eq (up e * down e) 1 t)
-
-some : (a b : ℕ) → 0 < a → a ≡ b → b ≡ 0 → ⊥
-some a b h e z = omega arith
+abs-below (fin false m e) h = absurd (not-below m e h)
 
 pub abs-zero : (x : Float) → T (fits binary64 x) → eq x nought ≡ true → nought ≡ absF x
 unfolding eq absF
 abs-zero nan t h = absurd (false≢true h)
 abs-zero (inf s) t h = absurd (false≢true h)
 abs-zero (fin s zero e) t h = ap (λ (d : ℤ). fin false 0 d) (sym (zero-exp s e t))
-abs-zero (fin s (suc m) e) t h =
-    absurd (some (suc m * up e * 1) (0 * down e) (mul-pos (mul-pos (zero-lt-suc m) (up-pos e)) (zero-lt-suc 0)) (eqb→eq (suc m * up e * 1) (0 * down e) (and-l (eqb (suc m * up e * 1) (0 * down e)) _ (T-true h))) (zero-mul (down e)))
+abs-zero (fin s (suc m) e) t h = absurd (not-level s m e h)
 
 pub abs-above : (x : Float) → T (fits binary64 x) → lt x nought ≡ false → eq x nought ≡ false → x ≡ absF x
 unfolding lt eq absF
@@ -56,11 +33,7 @@ abs-above (inf true) t h k = absurd (true≢false h)
 abs-above (inf false) t h k = refl
 abs-above (fin false m e) t h k = refl
 abs-above (fin true zero e) t h k = absurd (true≢false (subst (λ (d : ℤ). eq (fin true 0 d) nought ≡ false) (zero-exp true e t) k))
-abs-above (fin true (suc m) e) t h k =
-    absurd (over (suc m * up e * 1) (0 * down e) (mul-pos (mul-pos (zero-lt-suc m) (up-pos e)) (zero-lt-suc 0)) (ltb-false 0 (suc m * up e * 1 + 0 * down e) h))
-  where
-    over : (a b : ℕ) → 0 < a → a + b ≤ 0 → ⊥
-    over a b p q = omega arith
+abs-above (fin true (suc m) e) t h k = absurd (is-below m e h)
 
 -- ---- least and greatest
 pub is-nan : (x : Float) → ne x x ≡ true → isNan x ≡ true

@@ -1,62 +1,20 @@
 -- `root` by the tests that it makes: above zero, below zero, neither. Assumes nothing.
 use mathlib.Core.Path.{_≡_, refl, sym, ap, _∙_, subst}
 use mathlib.Core.Logic.{_⊎_, inl, inr}
-use Prim.Native.Nat.{ℕ, zero, suc, _+_, _*_, _/_, _^_, _≤_, _<_}
-use native.Mathlib.Nat.{mul-pos, zero-mul, zero-lt-suc, eq-zero-or-pos}
+use Prim.Native.Nat.{ℕ, zero, suc, _*_, _/_, _^_, _≤_, _<_}
+use native.Mathlib.Nat.{eq-zero-or-pos}
 use native.Mathlib.Omega.{arith}
 use mathlib.Core.Bool.{Bool, true, false, cond, true≢false, false≢true}
 use lib.IntN.{ℤ}
-use lib.Dec.{T, ltb→lt, eqb·suc-zero}
+use lib.Dec.{T, eqb·suc-zero}
 use lib.Ieee.{Float, nan, inf, fin, binary64, up, down, lt, fits, ofBits, toBits}
-use lib.Ieee.Fits.{up-pos}
 use lib.Ieee.Bits.{ofBits-toBits}
-use borrow.Author.Tests.{ltb-false}
 use Rattle.ieee.specs.Constants.{nought}
 use Rattle.ieee.specs.Root.{rootUnits, rootF}
 use Rattle.ieee.specs.RootSteps.{bitUnits}
 use Rattle.ieee.proofs.RootBits.{units-of, bits-under}
-use Rattle.ieee.proofs.Tools.{T-true, not-both}
-
--- ---- on which side of zero a finite value lies
-size-pos : (m : ℕ) (e : ℤ) → 0 < suc m * up e * 1
-size-pos m e = mul-pos (mul-pos (zero-lt-suc m) (up-pos e)) (zero-lt-suc 0)
-
-pub not-below : (m : ℕ) (e : ℤ) → lt (fin false m e) nought ≡ true → ⊥
-unfolding lt
-not-below m e h = none (m * up e * 1) (0 * down e) (zero-mul (down e)) (ltb→lt (m * up e * 1) (0 * down e) (T-true h))
-  where
-    none : (a b : ℕ) → b ≡ 0 → a < b → ⊥
-    none a b z h = omega arith
-
-pub is-below : (m : ℕ) (e : ℤ) → lt (fin true (suc m) e) nought ≡ false → ⊥
-unfolding lt
-is-below m e h = over (suc m * up e * 1) (0 * down e) (size-pos m e) (ltb-false 0 (suc m * up e * 1 + 0 * down e) h)
-  where
-    over : (a b : ℕ) → 0 < a → a + b ≤ 0 → ⊥
-    over a b p q = omega arith
-
-pub is-above : (m : ℕ) (e : ℤ) → lt nought (fin false (suc m) e) ≡ false → ⊥
-unfolding lt
-is-above m e h = over (0 * down e) (suc m * up e * 1) (zero-mul (down e)) (size-pos m e) (ltb-false (0 * down e) (suc m * up e * 1) h)
-  where
-    over : (a b : ℕ) → a ≡ 0 → 0 < b → b ≤ a → ⊥
-    over a b z p q = omega arith
-
-zero-not-above : (s : Bool) (e : ℤ) → lt nought (fin s zero e) ≡ true → ⊥
-unfolding lt
-zero-not-above true e h = false≢true h
-zero-not-above false e h = none (0 * down e) (0 * up e * 1) (ap (λ (x : ℕ). x * 1) (zero-mul (up e))) (ltb→lt (0 * down e) (0 * up e * 1) (T-true h))
-  where
-    none : (a b : ℕ) → b ≡ 0 → a < b → ⊥
-    none a b z h = omega arith
-
-zero-not-below : (s : Bool) (e : ℤ) → lt (fin s zero e) nought ≡ true → ⊥
-unfolding lt
-zero-not-below false e h = not-below zero e h
-zero-not-below true e h = none (0 * up e * 1) (0 * down e) (ap (λ (x : ℕ). x * 1) (zero-mul (up e))) (zero-mul (down e)) (ltb→lt 0 (0 * up e * 1 + 0 * down e) (T-true h))
-  where
-    none : (a b : ℕ) → a ≡ 0 → b ≡ 0 → 0 < a + b → ⊥
-    none a b y z h = omega arith
+use Rattle.ieee.proofs.Tools.{not-both}
+use Rattle.ieee.proofs.Signs.{not-below, is-below, is-above, zero-not-above, zero-not-below}
 
 -- ---- what is above zero: the infinity, or finite and not zero
 pub above-shape : (x : Float) → lt nought x ≡ true → (x ≡ inf false) ⊎ ((m : ℕ) × (e : ℤ) × (x ≡ fin false (suc m) e))

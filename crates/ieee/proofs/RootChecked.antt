@@ -1,11 +1,12 @@
 -- A candidate for the root of n to the nearest whole number, checked by what n is above its square; and the same root from one binary digit more. Assumes nothing.
 use mathlib.Core.Path.{_≡_, refl, sym, ap, _∙_}
-use mathlib.Core.Logic.{_⊎_, inl, inr}
+use mathlib.Core.Logic.{_⊎_, inl, inr, ⊎-elim}
 use Prim.Native.Nat.{ℕ, zero, suc, _+_, _-_, _*_, _/_, _%_, _^_, _≤_, _<_}
-use native.Mathlib.Nat.{lt-of-le-of-lt, le-antisymm, lt-of-not-le, eq-zero-or-pos, mul-le-mul-left, mul-le-mul-right, mul-le-mul, mul-add, add-mul, mul-comm, mul-assoc, mul-mul-mul-comm}
+use native.Mathlib.Nat.{le-refl, lt-of-le-of-lt, le-antisymm, lt-of-not-le, eq-zero-or-pos, mul-le-mul-left, mul-le-mul-right, mul-le-mul, mul-add, add-mul, mul-comm, mul-assoc, mul-mul-mul-comm}
 use native.Mathlib.Omega.{arith}
 use Rattle.ieee.specs.Root.{Rooted, isqrt}
 use Rattle.ieee.specs.RootSteps.{Rounded}
+use Rattle.ieee.proofs.Tools.{lt-or-ge}
 use Rattle.ieee.proofs.Squares.{sq-next, sq-double, isqrt-law}
 
 -- ---- by the excess f of n over c's square
@@ -99,31 +100,42 @@ rounded-half n s p h = elim (halves s) [ inl e ↦ even ((s + 1) / 2) e | inr e 
         let l = h .0 in
         let g = h .1 in record { above = omega arith; below = omega arith }
 
--- one number at most is rounded to
-pub rounded-one : (n q r : ℕ) → Rounded n q → Rounded n r → q ≡ r
-rounded-one n q r h k = le-antisymm (go q r h k) (go r q k h)
-  where
-    clash : (q r : ℕ) → Rounded n q → Rounded n r → r + 1 ≤ q → ⊥
-    clash q r h k g =
-        let a = mul-le-mul-left q g in
-        let b = mul-le-mul-right r g in
-        let c = mul-add q r 1 in
-        let d = add-mul r 1 r in
-        let e = h .below in
-        let f = k .above in
-        omega arith
-
-    go : (q r : ℕ) → Rounded n q → Rounded n r → q ≤ r
-    go q r h k = let l = lt-of-not-le (λ (g : r + 1 ≤ q). clash q r h k g) in omega arith
-
 pub rounded-slow : (m s : ℕ) → 0 < m → Rooted (m * 2 ^ 54) s → Rounded (m * 2 ^ 52) ((s + 1) / 2)
 rounded-slow m s p h = rounded-half (m * 2 ^ 52) s (omega arith) (rw four h)
   where
     four : m * 2 ^ 52 * 4 ≡ m * 2 ^ 54
     four = omega arith
 
--- so it is that of the whole part
-pub rounded-is : (m r : ℕ) → 0 < m → Rounded (m * 2 ^ 52) r → r ≡ (isqrt (m * 2 ^ 54) + 1) / 2
-rounded-is m r p h =
-    rounded-one (m * 2 ^ 52) r ((isqrt (m * 2 ^ 54) + 1) / 2) h
-    (rounded-slow m (isqrt (m * 2 ^ 54)) p (isqrt-law (m * 2 ^ 54)))
+-- ---- a larger number has no smaller rounded root, so each number has one at most
+pub rounded-mono : (n k q r : ℕ) → n ≤ k → Rounded n q → Rounded k r → q ≤ r
+rounded-mono n k q r l h g = let m = lt-of-not-le clash in omega arith
+  where
+    clash : r + 1 ≤ q → ⊥
+    clash o =
+        let a = mul-le-mul-left q o in
+        let b = mul-le-mul-right r o in
+        let c = mul-add q r 1 in
+        let d = add-mul r 1 r in
+        let e = h .below in
+        let f = g .above in
+        omega arith
+
+pub rounded-one : (n q r : ℕ) → Rounded n q → Rounded n r → q ≡ r
+rounded-one n q r h k = le-antisymm (rounded-mono n n q r (le-refl n) h k) (rounded-mono n n r q (le-refl n) k h)
+
+-- and it has one: the root's whole part, or the next number where n is past the middle
+abbrev pub Side : ℕ → ℕ → Type 0
+Side n q = ((n ≤ q * q + q) × Rounded n q) ⊎ ((q * q + q < n) × Rounded n (q + 1))
+
+pub side : (n : ℕ) → 0 < n → Side n (isqrt n)
+side n p = let h = isqrt-law n in go (isqrt n) (h .0) (h .1)
+  where
+    go : (q : ℕ) → q * q ≤ n → n < (q + 1) * (q + 1) → Side n q
+    go q l g =
+        ⊎-elim
+        (λ o. inr (o, let s = sq-next q in rounded-next n q (n - q * q) (omega arith) (omega arith) (omega arith)))
+        (λ o. inl (o, rounded-at n q (n - q * q) p (omega arith) (omega arith)))
+        (lt-or-ge (q * q + q) n)
+
+pub rounded-root : (n : ℕ) → 0 < n → (r : ℕ) × Rounded n r
+rounded-root n p = ⊎-elim (λ s. (isqrt n, s .1)) (λ s. (isqrt n + 1, s .1)) (side n p)

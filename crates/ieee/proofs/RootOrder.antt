@@ -15,47 +15,42 @@ use lib.Ieee.Bits.{ofBits-toBits, ofBits-fits, toBits-ofBits}
 use lib.Ieee.Exact.{HasValue}
 use borrow.Author.Tests.{leb-true, le-leb}
 use Rattle.ieee.specs.Constants.{nought}
-use Rattle.ieee.specs.Root.{Rooted, isqrt, rootUnits, rootF}
-use Rattle.ieee.specs.RootSteps.{Scaled, bitUnits}
+use Rattle.ieee.specs.Root.{rootUnits, rootF}
+use Rattle.ieee.specs.RootSteps.{Scaled, Rounded, bitUnits}
 use Rattle.ieee.proofs.Tools.{lt-or-ge}
-use Rattle.ieee.proofs.Squares.{root-ge, isqrt-law}
+use Rattle.ieee.proofs.RootChecked.{rounded-mono, rounded-root}
 use Rattle.ieee.proofs.RootBits.{bits-value, bits-under}
-use Rattle.ieee.proofs.RootScaled.{by-parity, scaled-range, root-range, scaled-root, scaled-bits, moved-scaled, moved-value, normal-scaled, normal-value}
+use Rattle.ieee.proofs.RootScaled.{by-parity, scaled-range, least, most, scaled-root, scaled-bits, moved-scaled, moved-value, normal-scaled, normal-value}
 use Rattle.ieee.proofs.Patterns.{moved-less, units-lt, units-mono, some-value, Like, le-like, bits-like, minus-like, Shape, no-number, minus-zero, pattern, shape, le-some-left, le-some-right, up-from-zero}
 
 -- ---- the root's pattern
--- bitUnits b as v * 2 ^ (g + 52) squared units, and the whole part s of the root that `root_scaled` takes
+-- bitUnits b as v * 2 ^ (g + 52) squared units, and the root r to the nearest whole number that `root_scaled` takes
 record Parts (b : ℕ) : Type 0 where
   v : ℕ
   g : ℕ
-  s : ℕ
+  r : ℕ
   scaled : Scaled v g
-  rooted : Rooted (v * (1 + g % 2) * 2 ^ 54) s
+  rounded : Rounded (v * (1 + g % 2) * 2 ^ 52) r
   value : bitUnits b * 2 ^ 1074 ≡ v * 2 ^ (g + 52)
 
-parts : (b : ℕ) → 0 < b → b < 2047 * 2 ^ 52 → Parts b
-parts b p h = ⊎-elim low high (lt-or-ge b (2 ^ 52))
-  where
-    low : b < 2 ^ 52 → Parts b
-    low l =
-        let v = (b * 2 ^ (leadingZeros 64 b - 11)) % 2 ^ 64 in
-        let g = 1033 - leadingZeros 64 b in
-        record { v = v; g = g; s = isqrt (v * (1 + g % 2) * 2 ^ 54); scaled = moved-scaled b p l; rooted = isqrt-law (v * (1 + g % 2) * 2 ^ 54); value = moved-value b p l }
+made : (b v g : ℕ) → Scaled v g → bitUnits b * 2 ^ 1074 ≡ v * 2 ^ (g + 52) → Parts b
+made b v g h e =
+    let a = scaled-range v g h in
+    let w = rounded-root (v * (1 + g % 2) * 2 ^ 52) (omega arith) in
+    record { v = v; g = g; r = w .0; scaled = h; rounded = w .1; value = e }
 
-    high : 2 ^ 52 ≤ b → Parts b
-    high l =
-        let v = 2 ^ 52 + b % 2 ^ 52 in
-        let g = b / 2 ^ 52 + 1021 in
-        record { v = v; g = g; s = isqrt (v * (1 + g % 2) * 2 ^ 54); scaled = normal-scaled b l h; rooted = isqrt-law (v * (1 + g % 2) * 2 ^ 54); value = normal-value b l }
+parts : (b : ℕ) → 0 < b → b < 2047 * 2 ^ 52 → Parts b
+parts b p h =
+    ⊎-elim
+    (λ l. made b ((b * 2 ^ (leadingZeros 64 b - 11)) % 2 ^ 64) (1033 - leadingZeros 64 b) (moved-scaled b p l) (moved-value b p l))
+    (λ l. made b (2 ^ 52 + b % 2 ^ 52) (b / 2 ^ 52 + 1021) (normal-scaled b l h) (normal-value b l))
+    (lt-or-ge b (2 ^ 52))
 
 abbrev joined : (b : ℕ) → Parts b → ℕ
-joined b p = p .g / 2 * 2 ^ 52 + (p .s + 1) / 2
-
-range : (b : ℕ) (p : Parts b) → (2 ^ 53 ≤ p .s) × (p .s < 2 ^ 54 - 1)
-range b p = let r = scaled-range (p .v) (p .g) (p .scaled) in root-range (p .v * (1 + p .g % 2)) (p .s) (r .0) (r .1) (p .rooted)
+joined b p = p .g / 2 * 2 ^ 52 + p .r
 
 joined-le : (b : ℕ) (p : Parts b) → joined b p ≤ 2047 * 2 ^ 52
-joined-le b p = scaled-bits (p .g) (p .s) (p .scaled .high) (range b p .1)
+joined-le b p = scaled-bits (p .v) (p .g) (p .r) (p .scaled) (p .rounded)
 
 -- a value of a units above zero has the root of a units
 value-root : (x : Float) (a : ℕ) → 0 < a → HasValue x false a (2 ^ 1074) → rootF x ≡ rootUnits a
@@ -73,7 +68,7 @@ value-root (fin false (suc m) e) a A v =
 
 joined-root : (b : ℕ) → 0 < b → b < 2047 * 2 ^ 52 → (p : Parts b) → rootF (ofBits binary64 b) ≡ ofBits binary64 (joined b p)
 joined-root b B h p =
-    value-root (ofBits binary64 b) (bitUnits b) (lt-of-le-of-lt zero-le (units-lt 0 b B)) (bits-value b h) ∙ sym (scaled-root (p .v) (p .g) (p .s) (bitUnits b) (p .scaled) (p .rooted) (p .value))
+    value-root (ofBits binary64 b) (bitUnits b) (lt-of-le-of-lt zero-le (units-lt 0 b B)) (bits-value b h) ∙ sym (scaled-root (p .v) (p .g) (p .r) (p .scaled) (p .rounded) (bitUnits b) (p .value))
 
 -- ---- two such numbers in order: the exponent's half is larger, or it is the same and the number whose root is taken is no smaller
 abbrev Level : ℕ → ℕ → ℕ → ℕ → Type 0
@@ -103,14 +98,16 @@ scaled-order v g w k p q h = ⊎-elim less (λ l. inr (⊎-elim same more (eq-or
 joined-mono : (b c : ℕ) (p : Parts b) (q : Parts c) → b ≤ c → joined b p ≤ joined c q
 joined-mono b c p q h =
     ⊎-elim
-    (λ l. apart (p .g / 2) (q .g / 2) (p .s) (q .s) l (range b p .1) (range c q .0))
-    (λ e. level (p .g / 2) (q .g / 2) (p .s) (q .s) (e .0) (root-ge (q .v * (1 + q .g % 2) * 2 ^ 54) (q .s) (p .s) (q .rooted) (le-trans (p .rooted .0) (mul-le-mul-right (2 ^ 54) (e .1)))))
+    (λ l. apart (p .g / 2) (q .g / 2) (p .r) (q .r) l (most (p .v) (p .g) (p .r) (p .scaled) (p .rounded)) (least (q .v) (q .g) (q .r) (q .scaled) (q .rounded)))
+    (λ e.
+    level (p .g / 2) (q .g / 2) (p .r) (q .r) (e .0)
+    (rounded-mono (p .v * (1 + p .g % 2) * 2 ^ 52) (q .v * (1 + q .g % 2) * 2 ^ 52) (p .r) (q .r) (mul-le-mul-right (2 ^ 52) (e .1)) (p .rounded) (q .rounded)))
     (scaled-order (p .v) (p .g) (q .v) (q .g) (p .scaled) (q .scaled) (le-trans (le-of-eq (sym (p .value))) (le-trans (mul-le-mul-right (2 ^ 1074) (units-mono b c h)) (le-of-eq (q .value)))))
   where
-    apart : (i j s t : ℕ) → i < j → s < 2 ^ 54 - 1 → 2 ^ 53 ≤ t → i * 2 ^ 52 + (s + 1) / 2 ≤ j * 2 ^ 52 + (t + 1) / 2
+    apart : (i j s t : ℕ) → i < j → s < 2 ^ 53 → 2 ^ 52 ≤ t → i * 2 ^ 52 + s ≤ j * 2 ^ 52 + t
     apart i j s t l a b = omega arith
 
-    level : (i j s t : ℕ) → i ≡ j → s ≤ t → i * 2 ^ 52 + (s + 1) / 2 ≤ j * 2 ^ 52 + (t + 1) / 2
+    level : (i j s t : ℕ) → i ≡ j → s ≤ t → i * 2 ^ 52 + s ≤ j * 2 ^ 52 + t
     level i j s t e l = omega arith
 
 -- ---- the root as a function on patterns, which does not fall

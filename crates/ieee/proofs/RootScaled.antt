@@ -4,15 +4,13 @@ use Prim.Native.Nat.{ℕ, zero, suc, _+_, _-_, _*_, _/_, _%_, _^_, _≤_, _<_}
 use native.Mathlib.Nat.{le-trans, le-of-eq, lt-of-lt-of-le, lt-of-not-le, not-le-of-lt, mul-one, mul-comm, mul-assoc, mul-le-mul-right, mul-lt-mul-of-pos-right, mod-eq-of-lt}
 use native.Mathlib.Omega.{arith}
 use mathlib.Core.Logic.{_⊎_, inl, inr}
-use mathlib.Core.Bool.{false}
-use lib.Dec.{lit≤}
+use lib.Dec.{lit≤, lit<}
 use lib.Pow.{pow-add, pow-pos, pow-mono}
 use lib.Count.{leadingZeros, leading-top}
-use lib.Ieee.{binary64, ofBits, units}
-use Rattle.ieee.specs.Root.{Rooted, isqrt, rootUnits}
+use lib.Ieee.{binary64, ofBits}
+use Rattle.ieee.specs.Root.{rootUnits}
 use Rattle.ieee.specs.RootSteps.{Scaled, Rounded, bitUnits}
-use Rattle.ieee.proofs.Squares.{root-ge, root-lt, isqrt-law}
-use Rattle.ieee.proofs.RootChecked.{rounded-is}
+use Rattle.ieee.proofs.RootChecked.{rounded-mono}
 use Rattle.ieee.proofs.RootCore.{root-core}
 use Rattle.ieee.proofs.RootBits.{units-low, units-high, units-bits}
 
@@ -38,72 +36,47 @@ scaled-range v g h = go (by-parity v g)
     go (inl e) = let f = e .1 in (omega arith, omega arith)
     go (inr e) = let f = e .1 in (omega arith, omega arith)
 
-pub root-range : (m s : ℕ) → 2 ^ 52 ≤ m → m ≤ 2 ^ 54 - 2 → Rooted (m * 2 ^ 54) s → (2 ^ 53 ≤ s) × (s < 2 ^ 54 - 1)
-root-range m s lo hi h = (root-ge (m * 2 ^ 54) s (2 ^ 53) h (omega arith), root-lt (m * 2 ^ 54) s (2 ^ 54 - 1) h (omega arith))
-
--- v * 2 ^ (g + 52) as m * 2 ^ 54 * 4 ^ j
-pub radicand : (v g : ℕ) → 2 ≤ g → v * 2 ^ (g + 52) ≡ v * (1 + g % 2) * 2 ^ 54 * 2 ^ (2 * (g / 2 - 1))
-radicand v g G = go (by-parity v g)
+-- v * 2 ^ (g + 52) as m * 2 ^ 52 * 4 ^ (g / 2)
+radicand : (v g : ℕ) → v * 2 ^ (g + 52) ≡ v * (1 + g % 2) * 2 ^ 52 * 2 ^ (2 * (g / 2))
+radicand v g = go (by-parity v g)
   where
-    even : (g : ℕ) → 2 ≤ g → g % 2 ≡ 0 → g + 52 ≡ 54 + 2 * (g / 2 - 1)
-    even g a b = omega arith
+    even : (g : ℕ) → g % 2 ≡ 0 → g + 52 ≡ 52 + 2 * (g / 2)
+    even g h = omega arith
 
-    odd : (g : ℕ) → 2 ≤ g → g % 2 ≡ 1 → g + 52 ≡ 55 + 2 * (g / 2 - 1)
-    odd g a b = omega arith
+    odd : (g : ℕ) → g % 2 ≡ 1 → g + 52 ≡ 53 + 2 * (g / 2)
+    odd g h = omega arith
 
-    go : ((g % 2 ≡ 0) × (v * (1 + g % 2) ≡ v)) ⊎ ((g % 2 ≡ 1) × (v * (1 + g % 2) ≡ 2 * v)) → v * 2 ^ (g + 52) ≡ v * (1 + g % 2) * 2 ^ 54 * 2 ^ (2 * (g / 2 - 1))
-    go (inl e) =
-        ap (λ (x : ℕ). v * 2 ^ x) (even g G (e .0)) ∙ ap (λ (x : ℕ). v * x) (pow-add 2 54 (2 * (g / 2 - 1))) ∙ sym (mul-assoc v (2 ^ 54) (2 ^ (2 * (g / 2 - 1))))
-        ∙ ap (λ (x : ℕ). x * 2 ^ 54 * 2 ^ (2 * (g / 2 - 1))) (sym (e .1))
-    go (inr e) =
-        ap (λ (x : ℕ). v * 2 ^ x) (odd g G (e .0)) ∙ ap (λ (x : ℕ). v * x) (pow-add 2 55 (2 * (g / 2 - 1))) ∙ sym (mul-assoc v (2 ^ 55) (2 ^ (2 * (g / 2 - 1))))
-        ∙ ap (λ (x : ℕ). x * 2 ^ (2 * (g / 2 - 1))) (twice v)
-        ∙ ap (λ (x : ℕ). x * 2 ^ 54 * 2 ^ (2 * (g / 2 - 1))) (sym (e .1))
-      where
-        twice : (v : ℕ) → v * 2 ^ 55 ≡ 2 * v * 2 ^ 54
-        twice v = omega arith
+    twice : (v : ℕ) → v * 2 ^ 53 ≡ 2 * v * 2 ^ 52
+    twice v = omega arith
 
-pub scaled-root : (v g s n : ℕ) → Scaled v g → Rooted (v * (1 + g % 2) * 2 ^ 54) s → n * 2 ^ 1074 ≡ v * 2 ^ (g + 52) → ofBits binary64 (g / 2 * 2 ^ 52 + (s + 1) / 2) ≡ rootUnits n
-scaled-root v g s n h r w =
-    let m = v * (1 + g % 2) in
-    let a = scaled-range v g h in
-    let b = root-range m s (a .0) (a .1) r in
-    units-bits ((s + 1) / 2) (g / 2) (lo s (b .0)) (hi s (b .1)) (ex g (h .high))
-    ∙ ap (λ (k : ℕ). units binary64 false ((s + 1) / 2) k) (back g (h .low))
-    ∙ sym (root-core n m (g / 2 - 1) s (w ∙ radicand v g (h .low)) (a .0) (top m (a .1)) r)
-  where
-    lo : (s : ℕ) → 2 ^ 53 ≤ s → 2 ^ 52 ≤ (s + 1) / 2
-    lo s h = omega arith
+    split : (i : ℕ) → g + 52 ≡ i + 2 * (g / 2) → v * 2 ^ (g + 52) ≡ v * 2 ^ i * 2 ^ (2 * (g / 2))
+    split i e = ap (λ (x : ℕ). v * 2 ^ x) e ∙ ap (λ (x : ℕ). v * x) (pow-add 2 i (2 * (g / 2))) ∙ sym (mul-assoc v (2 ^ i) (2 ^ (2 * (g / 2))))
 
-    hi : (s : ℕ) → s < 2 ^ 54 - 1 → (s + 1) / 2 < 2 ^ 53
-    hi s h = omega arith
+    go : ((g % 2 ≡ 0) × (v * (1 + g % 2) ≡ v)) ⊎ ((g % 2 ≡ 1) × (v * (1 + g % 2) ≡ 2 * v)) → v * 2 ^ (g + 52) ≡ v * (1 + g % 2) * 2 ^ 52 * 2 ^ (2 * (g / 2))
+    go (inl e) = split 52 (even g (e .0)) ∙ ap (λ (x : ℕ). x * 2 ^ 52 * 2 ^ (2 * (g / 2))) (sym (e .1))
+    go (inr e) = split 53 (odd g (e .0)) ∙ ap (λ (x : ℕ). x * 2 ^ (2 * (g / 2))) (twice v) ∙ ap (λ (x : ℕ). x * 2 ^ 52 * 2 ^ (2 * (g / 2))) (sym (e .1))
 
-    ex : (g : ℕ) → g ≤ 3067 → g / 2 ≤ 2045
-    ex g h = omega arith
-
-    back : (g : ℕ) → 2 ≤ g → g / 2 ≡ suc (g / 2 - 1)
-    back g h = omega arith
-
-    top : (m : ℕ) → m ≤ 2 ^ 54 - 2 → m < 2 ^ 54
-    top m h = omega arith
-
-pub scaled-bits : (g s : ℕ) → g ≤ 3067 → s < 2 ^ 54 - 1 → g / 2 * 2 ^ 52 + (s + 1) / 2 ≤ 2047 * 2 ^ 52
-scaled-bits g s a b = omega arith
-
--- the same from the root to the nearest whole number, which is all that the code knows
+-- the root r of m * 2 ^ 52 to the nearest whole number has 53 digits, as those of 2 ^ 104 and 2 ^ 106 - 2 ^ 53 have
 module _ (v g r : ℕ) (h : Scaled v g) (d : Rounded (v * (1 + g % 2) * 2 ^ 52) r) where
-  is : r ≡ (isqrt (v * (1 + g % 2) * 2 ^ 54) + 1) / 2
-  is = let a = scaled-range v g h in rounded-is (v * (1 + g % 2)) r (omega arith) d
+  pub least : 2 ^ 52 ≤ r
+  least = let a = scaled-range v g h in rounded-mono (2 ^ 104) (v * (1 + g % 2) * 2 ^ 52) (2 ^ 52) r (omega arith) (record { above = lit≤ tt; below = lit< tt }) d
 
-  pub rounded-lt : r < 2 ^ 53
-  rounded-lt = let a = scaled-range v g h in let b = root-range (v * (1 + g % 2)) (isqrt (v * (1 + g % 2) * 2 ^ 54)) (a .0) (a .1) (isqrt-law (v * (1 + g % 2) * 2 ^ 54)) in let e = is in omega arith
+  pub most : r < 2 ^ 53
+  most =
+      let a = scaled-range v g h in
+      let l = rounded-mono (v * (1 + g % 2) * 2 ^ 52) (2 ^ 106 - 2 ^ 53) r (2 ^ 53 - 1) (omega arith) d (record { above = lit≤ tt; below = lit< tt }) in
+      omega arith
 
-  pub rounded-bits : g / 2 * 2 ^ 52 + r ≤ 2047 * 2 ^ 52
-  rounded-bits = let l = rounded-lt in let k = h .high in omega arith
+  pub scaled-bits : g / 2 * 2 ^ 52 + r ≤ 2047 * 2 ^ 52
+  scaled-bits = let l = most in let k = h .high in omega arith
 
-  pub rounded-root : (n : ℕ) → n * 2 ^ 1074 ≡ v * 2 ^ (g + 52) → ofBits binary64 (g / 2 * 2 ^ 52 + r) ≡ rootUnits n
-  rounded-root n w =
-      ap (λ (x : ℕ). ofBits binary64 (g / 2 * 2 ^ 52 + x)) is ∙ scaled-root v g (isqrt (v * (1 + g % 2) * 2 ^ 54)) n h (isqrt-law (v * (1 + g % 2) * 2 ^ 54)) w
+  pub scaled-root : (n : ℕ) → n * 2 ^ 1074 ≡ v * 2 ^ (g + 52) → ofBits binary64 (g / 2 * 2 ^ 52 + r) ≡ rootUnits n
+  scaled-root n w =
+      let a = scaled-range v g h in
+      units-bits r (g / 2) least most (ex g (h .high)) ∙ sym (root-core n (v * (1 + g % 2)) (g / 2) r (w ∙ radicand v g) (a .0) (omega arith) d)
+    where
+      ex : (g : ℕ) → g ≤ 3067 → g / 2 ≤ 2045
+      ex g h = omega arith
 
 -- ---- below 2 ^ 52: the digits moved up, so that there are 53
 pub lead : (b : ℕ) → 0 < b → b < 2 ^ 52 → (j : ℕ) × (leadingZeros 64 b + suc j ≡ 64) × (2 ^ j ≤ b) × (b < 2 ^ suc j) × (j < 52)
@@ -144,11 +117,8 @@ module _ (b : ℕ) (p : 0 < b) (h : b < 2 ^ 52) where
   moved = mod-eq-of-lt (lt-of-lt-of-le moved-lt (lit≤ tt))
 
   pub moved-scaled : Scaled ((b * 2 ^ (leadingZeros 64 b - 11)) % 2 ^ 64) (1033 - leadingZeros 64 b)
-  moved-scaled = rw moved (record { least = moved-ge; most = moved-lt; low = go (leadingZeros 64 b) (zeros-range b p h .1); high = ho (leadingZeros 64 b) })
+  moved-scaled = rw moved (record { least = moved-ge; most = moved-lt; high = ho (leadingZeros 64 b) })
     where
-      go : (z : ℕ) → z ≤ 63 → 2 ≤ 1033 - z
-      go z l = omega arith
-
       ho : (z : ℕ) → 1033 - z ≤ 3067
       ho z = omega arith
 
@@ -166,7 +136,7 @@ module _ (b : ℕ) (p : 0 < b) (h : b < 2 ^ 52) where
 
 -- ---- from 2 ^ 52 on
 pub normal-scaled : (b : ℕ) → 2 ^ 52 ≤ b → b < 2047 * 2 ^ 52 → Scaled (2 ^ 52 + b % 2 ^ 52) (b / 2 ^ 52 + 1021)
-normal-scaled b h k = record { least = omega arith; most = omega arith; low = omega arith; high = omega arith }
+normal-scaled b h k = record { least = omega arith; most = omega arith; high = omega arith }
 
 pub normal-value : (b : ℕ) → 2 ^ 52 ≤ b → bitUnits b * 2 ^ 1074 ≡ (2 ^ 52 + b % 2 ^ 52) * 2 ^ (b / 2 ^ 52 + 1021 + 52)
 normal-value b h =

@@ -15,11 +15,11 @@ use Rattle.ieee.specs.Pick.{absF}
 use Rattle.ieee.specs.Root.{rootF}
 use Rattle.ieee.specs.Threshold.{Threshold}
 use Rattle.ieee.specs.ThresholdSteps.{Between}
-use Rattle.ieee.proofs.Tools.{lt-or-ge, not-both, T-true}
+use Rattle.ieee.proofs.Tools.{lt-or-ge, lt-nan, lt-some-right, not-both, T-true}
 use Rattle.ieee.proofs.Picks.{no-nan}
 use Rattle.ieee.proofs.RootBits.{bits-under}
 use Rattle.ieee.proofs.RootCases.{inf-bits}
-use Rattle.ieee.proofs.Patterns.{top-is, finite-is, le-not, lt-nan, le-nan, nan-le, is-nan-is, le-some-left, le-some-right, lt-some-right, lt-asym, Like, lt-like, le-like, bits-like, zero-like, like, none-below-low}
+use Rattle.ieee.proofs.Patterns.{top-is, finite-is, le-not, le-nan, nan-le, is-nan-is, le-some-left, le-some-right, lt-asym, Like, lt-like, le-like, bits-like, zero-like, like, none-below-low}
 use Rattle.ieee.proofs.RootOrder.{rootBits, root-bits-mono, zero-root, top-root, Rank, rank-bits, rank}
 
 -- ---- at a NaN every comparison is false
@@ -217,6 +217,3 @@ above-range (inf true) f h = absurd (false≢true (unfold lt in h))
 above-range (inf false) f h = le-of-eq inf-bits
 above-range (fin true m e) f h = absurd (false≢true (unfold lt in h))
 above-range (fin false m e) f h = le-of-lt (bits-under m e f)
-
-pub not-nan : (x : Float) → isNan x ≡ false → T (not (isNan x))
-not-nan x h = subst (λ (t : Bool). T (not t)) (sym h) tt

@@ -2,15 +2,15 @@
 use mathlib.Core.Path.{_≡_, refl, sym, ap, _∙_, subst}
 use Prim.Native.Nat.{ℕ, zero, suc, _+_, _*_, _%_, _^_, _≤_, _<_}
 use native.Mathlib.Nat.{mul-one, one-mul, zero-mul, mul-pos, mul-right-comm, add-mul, mul-lt-mul-of-pos-right, lt-of-mul-lt-mul-right, le-trans, le-of-eq}
-use mathlib.Core.Logic.{_⊎_, inl, inr}
-use mathlib.Core.Bool.{Bool, true, false, not, _&&_, true≢false, false≢true}
+use mathlib.Core.Logic.{_⊎_, inl, inr, ⊎-elim}
+use mathlib.Core.Bool.{Bool, true, false, not, _&&_, true≢false}
 use lib.IntN.{ℤ, pos, negsuc}
 use lib.Dec.{T, leb, ltb, eqb, ltb→lt, lt→ltb, leb→le, eqb→eq, lit<}
 use lib.Pow.{pow-pos}
 use lib.Ieee.{Float, nan, inf, fin, binary64, up, down, lt, below, isNan, fits}
 use lib.Ieee.Fits.{and-l, and-r, down-pos}
 use lib.Ieee.Exact.{HasValue}
-use borrow.Author.Tests.{ltb-true, ltb-false}
+use borrow.Author.Tests.{ltb-true, ltb-false, lt-ltb, le-ltb, lt-leb, le-leb}
 
 pub same-test : (a b : Bool) → (T a → T b) → (T b → T a) → a ≡ b
 same-test true true p q = refl
@@ -31,14 +31,36 @@ lt-or-ge a b = go (ltb a b) refl
 pub not-both : {A : Type 0} {b : Bool} → b ≡ true → b ≡ false → A
 not-both h k = absurd (true≢false (sym h ∙ k))
 
--- what is above something is a number
-pub above-number : (x y : Float) → lt x y ≡ true → T (not (isNan y))
-unfolding lt isNan
-above-number nan nan h = absurd (false≢true h)
-above-number (inf s) nan h = absurd (false≢true h)
-above-number (fin s m e) nan h = absurd (false≢true h)
-above-number x (inf t) h = tt
-above-number x (fin t n d) h = tt
+-- ---- the tests' negations
+pub ltb-not : (a b : ℕ) → ltb a b ≡ not (leb b a)
+ltb-not a b = ⊎-elim (λ h. rw (lt-ltb a b h, lt-leb b a h)) (λ h. rw (le-ltb a b h, le-leb b a h)) (lt-or-ge a b)
+
+pub leb-not : (a b : ℕ) → not (ltb b a) ≡ leb a b
+leb-not a b = ap not (ltb-not b a) ∙ twice (leb a b)
+  where
+    twice : (t : Bool) → not (not t) ≡ t
+    twice true = refl
+    twice false = refl
+
+-- ---- what is above something is a number
+pub lt-nan : (x : Float) → lt x nan ≡ false
+unfolding lt
+lt-nan nan = refl
+lt-nan (inf s) = refl
+lt-nan (fin s m e) = refl
+
+-- a test that fails at a NaN shows that its operand is none
+pub some-by : (x : Float) (t : Bool) → (x ≡ nan → t ≡ false) → t ≡ true → isNan x ≡ false
+unfolding isNan
+some-by nan t f h = not-both h (f refl)
+some-by (inf s) t f h = refl
+some-by (fin s m e) t f h = refl
+
+pub lt-some-right : (x y : Float) → lt x y ≡ true → isNan y ≡ false
+lt-some-right x y h = some-by y (lt x y) (λ e. ap (λ (z : Float). lt x z) e ∙ lt-nan x) h
+
+pub not-nan : (x : Float) → isNan x ≡ false → T (not (isNan x))
+not-nan x h = subst (λ (t : Bool). T (not t)) (sym h) tt
 
 -- ---- what `fits binary64` says of a finite value
 abbrev pub Held : ℕ → ℤ → Type 0

@@ -21,7 +21,7 @@ use Rattle.ieee.specs.Yard.{shiftF, isPower, isWhole, inYard, wholeN, sh
 use Rattle.ieee.proofs.Tools.{T-true}
 use Rattle.ieee.proofs.Floor.{cut-exact}
 use Rattle.ieee.proofs.Dyadic.{Is, is-half, is-lift, is-shift, is-add, is-div}
-use Rattle.ieee.proofs.DyadicFloor.{ceil-nat}
+use Rattle.ieee.proofs.DyadicWhole.{ceil-nat}
 use Rattle.ieee.proofs.Integers.{ceil-rest}
 use Rattle.ieee.proofs.Compare.{eq-whole, both-pos, quot-iff, ceil-at-most, round-number, sum-number}
 

@@ -11,7 +11,6 @@ bitUnits b = cond (ltb b (2 ^ 52)) b ((2 ^ 52 + b % 2 ^ 52) * 2 ^ (b / 2 ^ 52 - 
 pub record Scaled (v g : ℕ) : Type 0 where
   pub least : 2 ^ 52 ≤ v
   pub most : v < 2 ^ 53
-  pub low : 2 ≤ g
   pub high : g ≤ 3067
 
 -- r is the whole number nearest to the root of n: (r - 1/2)² < n < (r + 1/2)², and no whole number lies on either bound

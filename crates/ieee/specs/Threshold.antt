@@ -1,4 +1,4 @@
--- The least binary64 value whose root is at least b, so that a loop can compare squares and take no root. Definitions only.
+-- The least binary64 value whose root is at least b, so that a loop can compare squares and take no root (this port's own). Definitions only.
 use mathlib.Core.Path.{_≡_}
 use mathlib.Core.Bool.{false}
 use lib.Dec.{T}

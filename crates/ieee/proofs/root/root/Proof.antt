@@ -2,14 +2,14 @@
 use mathlib.Core.Path.{_∙_}
 use lib.Ieee.{div, ofBits}
 use Rattle.ieee.specs.Constants.{nought}
-use Rattle.ieee.proofs.Tools.{T-true, above-number}
+use Rattle.ieee.proofs.Tools.{T-true, lt-some-right, not-nan}
 use Rattle.ieee.proofs.RootCases.{some-bits, root-finite, root-endless, root-below, root-neither}
 use Rattle.ieee.proofs.root.root.Statement.{statement}
 use Rattle.ieee.proofs.root.root.Tie as tie
 
 float-to-bits-b : tie.Need-float-to-bits-b
 unfolding ofBits
-float-to-bits-b c = above-number nought (c .before .args .x) (c .if1 .taken)
+float-to-bits-b c = let x = c .before .args .x in not-nan x (lt-some-right nought x (c .if1 .taken))
 
 root-positive-requires : tie.Need-root-positive-requires
 unfolding ofBits

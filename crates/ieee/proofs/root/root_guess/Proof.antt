@@ -2,7 +2,7 @@
 use Prim.Native.Nat.{_+_, _-_, _*_, _/_}
 use native.Mathlib.Omega.{arith}
 use Rattle.ieee.proofs.RootBits.{no-nan-bits}
-use Rattle.ieee.proofs.Tools.{above-number}
+use Rattle.ieee.proofs.Tools.{lt-some-right, not-nan}
 use borrow.Author.Needs.{needs}
 use Rattle.ieee.proofs.root.root_guess.Statement.{statement}
 use Rattle.ieee.proofs.root.root_guess.Tie as tie
@@ -26,7 +26,7 @@ float-from-bits-x : tie.Need-float-from-bits-x
 float-from-bits-x c = no-nan-bits (6909647675743469568 - ((1022 + c .args .p) * 4503599627370496 + c .args .v) / 2) (omega arith)
 
 float-to-bits-wrapping-sub-u64 : tie.Need-float-to-bits-wrapping-sub-u64
-float-to-bits-wrapping-sub-u64 c = above-number _ _ (c .if1 .taken)
+float-to-bits-wrapping-sub-u64 c = not-nan _ (lt-some-right _ _ (c .if1 .taken))
 
 wrapping-sub-u64-requires : tie.Need-wrapping-sub-u64-requires
 wrapping-sub-u64-requires c κs = search needs

@@ -1,6 +1,6 @@
 -- `ieee::root::root_scaled` meets its contract. The laws are in `proofs/RootScaled.antt`. Assumes nothing.
 use native.Mathlib.Omega.{arith}
-use Rattle.ieee.proofs.RootScaled.{scaled-range, rounded-bits, rounded-root}
+use Rattle.ieee.proofs.RootScaled.{scaled-range, scaled-bits, scaled-root}
 use Rattle.ieee.proofs.RootBits.{no-nan-bits}
 use borrow.Author.Needs.{needs}
 use Rattle.ieee.proofs.root.root_scaled.Statement.{statement}
@@ -22,13 +22,13 @@ mul-result : tie.Need-mul-result
 mul-result c = search needs
 
 add-result : tie.Need-add-result
-add-result c = let s = c .before .before in let h = rounded-bits (s .args .v) (s .args .g) (c .root-checked .result) (s .pre) (c .root-checked .ensures) in omega arith
+add-result c = let s = c .before .before in let h = scaled-bits (s .args .v) (s .args .g) (c .root-checked .result) (s .pre) (c .root-checked .ensures) in omega arith
 
 float-from-bits-result : tie.Need-float-from-bits-result
-float-from-bits-result c = let s = c .before .before in no-nan-bits _ (rounded-bits (s .args .v) (s .args .g) (c .root-checked .result) (s .pre) (c .root-checked .ensures))
+float-from-bits-result c = let s = c .before .before in no-nan-bits _ (scaled-bits (s .args .v) (s .args .g) (c .root-checked .result) (s .pre) (c .root-checked .ensures))
 
 returns : tie.Need-returns
-returns c = let s = c .before .before in rounded-root (s .args .v) (s .args .g) (c .root-checked .result) (s .pre) (c .root-checked .ensures)
+returns c = let s = c .before .before in scaled-root (s .args .v) (s .args .g) (c .root-checked .result) (s .pre) (c .root-checked .ensures)
 
 pub root-scaled-spec : {M : Type 1} → statement M
 root-scaled-spec =

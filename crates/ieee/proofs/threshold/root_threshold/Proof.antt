@@ -6,12 +6,12 @@ use native.Mathlib.Omega.{arith}
 use lib.Ieee.{binary64, mul, lt, ofBits, toBits}
 use borrow.Author.Needs.{needs}
 use Rattle.ieee.specs.Constants.{nought}
-use Rattle.ieee.proofs.Tools.{T-true}
+use Rattle.ieee.proofs.Tools.{T-true, not-nan}
 use Rattle.ieee.proofs.Picks.{no-nan}
 use Rattle.ieee.proofs.RootBits.{no-nan-bits}
 use Rattle.ieee.proofs.RootCases.{some-bits}
 use Rattle.ieee.proofs.Patterns.{le-some-right}
-use Rattle.ieee.proofs.Thresholds.{nan-threshold, low-threshold, first-threshold, above-zero, above-range, not-nan}
+use Rattle.ieee.proofs.Thresholds.{nan-threshold, low-threshold, first-threshold, above-zero, above-range}
 use Rattle.ieee.proofs.threshold.root_threshold.Statement.{statement}
 use Rattle.ieee.proofs.threshold.root_threshold.Tie as tie
 
