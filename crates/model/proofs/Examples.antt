@@ -1,0 +1,79 @@
+-- The examples of document 01, computed. Assumes nothing.
+use mathlib.Core.Path.{_≡_, refl}
+use Prim.Native.Nat.{ℕ}
+use mathlib.Core.List.{List, [], _∷_}
+use mathlib.Core.Option.{none, some}
+use lib.IntN.{pos, negsuc}
+use lib.Ieee.{add, sub, mul, div, lt, le, eq, neg, ofInt, ofBits}
+use Rattle.ieee.specs.Pick.{absF, minF, maxF}
+use Rattle.ieee.specs.Root.{rootF}
+use Rattle.ieee.specs.Whole.{floorZ, ceilZ}
+use Rattle.ieee.specs.Yard.{centreF, shiftF}
+use Rattle.model.specs.Maps.{get, put, del, mapV, keys, sift, has, add as insert, cut, find}
+use Rattle.model.specs.Cell.{key, within}
+use Rattle.model.specs.Corner.{number, sameBits, corner, statusOf, quadrant, sees, cornersAmong}
+use Rattle.model.specs.Batch.{cellsAfter, confirmed, met, altered, cornerChanges}
+use Rattle.model.specs.Plane.{plus, minus, times, over, dot, norm, turned, tiny, bound, root2, cellOf, centre, lowCorner}
+use Rattle.model.specs.Segment.{verticalAt, horizontalAt, distance, nearCorners, between, meets, passesNear}
+use Rattle.model.specs.Shape.{pointTest, lowEnd, highEnd, inBox, squareTest, pointInside, lineInside, inCircle, circleTest, stripOf, leftmost, rightmost, endsIn, sidesAt, search, rowIn, inColumn, inStrip, sweepTest}
+use Rattle.model.specs.Layer.{line, edge, tie, untie, link, hide, erase, marks, raise, lower, mark, markAll, phase2, wanted, connect, phase3, edgeRun, settleRow, settleAll, phase4, update, pairsFrom, pairs}
+use Rattle.model.specs.Map.{Op, toBatch, shiftOf, tests, changed, rebuilt, next}
+use Rattle.model.specs.Refusal.{firstOf, verdict, short, badSize, badRadius, unsorted, outside, refuseOpen, judge, refusal, step, run, refusals, opened}
+use Rattle.model.specs.Answers.{changedCorners, freePoints, fromPoint, fromElsewhere, visibleFrom, neighbours, corners, points, allPairs, isOpen, openPairs}
+use Rattle.model.specs.Blocks.{adjacent, touches, union, joinCell, blocksOf, blockCount}
+use Rattle.model.specs.MapFile.{bigEndian, entries, badFlag, takeSize, takeRadius, takeBatch, sized, oneField, readOn, readFile}
+use Rattle.model.specs.Listing.{text, digits, cellText, pointLines, pairLines, summary, refusedLine, listing}
+use Rattle.model.specs.Borders.{near, bits, joins, borders, answers, counts, sixPoints, head, heads, gives, files, AllNamed}
+use Rattle.model.specs.Examples.{c, num, pt, at, after, setRadius, pointStatus, pointBlock, pairBlock, flat, cover, lies, twoCells, oneFreed, table, All, circle?, ten, tenAgain, others, workedFile, workedListing}
+
+-- two runs of accepted operations, from the same opening to the same cells and radius, after which a pair is blocked and is not
+abbrev pub Remembered : Type 0
+Remembered =
+    (a b : List Op) × (refusals a (opened c (num (pos 200))) ≡ 0 ∷ 0 ∷ []) × (refusals b (opened c (num (pos 200))) ≡ 0 ∷ 0 ∷ 0 ∷ [])
+    × (after 200 a .cells ≡ after 200 b .cells) × (after 200 a .layer .radius ≡ after 200 b .layer .radius)
+    × (p q : ℕ) × (edge p q (after 200 a .layer .edges) ≡ some (some (at (negsuc 2) (pos 2)))) × (edge p q (after 200 b .layer .edges) ≡ some none)
+
+-- what is to be computed, said once: whoever unfolds this unfolds all of it
+unfoldable everything : Unit {0}
+unfolding near bits joins borders answers counts sixPoints head heads gives files fromPoint fromElsewhere freePoints visibleFrom neighbours table num pt at after pointStatus flat cover lies twoCells oneFreed add sub mul div lt le eq neg ofInt ofBits absF minF maxF rootF floorZ ceilZ centreF shiftF get put del mapV keys sift has insert cut find key within number sameBits corner statusOf quadrant sees cornersAmong cellsAfter confirmed met altered cornerChanges plus minus times over dot norm turned tiny bound root2 cellOf centre lowCorner verticalAt horizontalAt distance nearCorners between meets passesNear pointTest lowEnd highEnd inBox squareTest stripOf leftmost rightmost endsIn sidesAt search rowIn inColumn inStrip sweepTest line edge tie untie link hide erase marks raise lower mark markAll phase2 wanted connect phase3 edgeRun settleRow settleAll phase4 update toBatch shiftOf tests changed rebuilt next firstOf verdict short badSize badRadius unsorted outside refuseOpen judge refusal step run opened changedCorners others pointBlock pairBlock circle? ten tenAgain setRadius pointInside lineInside inCircle circleTest listing workedFile workedListing text digits cellText pointLines pairLines summary refusedLine bigEndian entries badFlag takeSize takeRadius takeBatch sized oneField readOn readFile adjacent touches union joinCell blocksOf blockCount corners points allPairs isOpen openPairs pairsFrom pairs refusals
+everything = tt
+
+-- The examples marked P hold of the definitions, together.
+pub examples : All table
+unfolding everything
+examples = (tt, (tt, (tt, (tt, (tt, (tt, (tt, (tt, (tt, tt)))))))))
+
+-- Examples 9 and 10, which document 01 leaves to be run, hold too.
+pub examples-run : All others
+unfolding everything
+examples-run = (tt, (tt, tt))
+
+-- The worked map file gives the worked listing, byte for byte.
+pub worked-listing : listing workedFile ≡ workedListing
+unfolding everything
+worked-listing = refl
+
+-- Blockers have a history: where two runs end in the same cells and radius, a pair may still be blocked after one and open after the other (example 10).
+pub blockers-remember : Remembered
+unfolding everything
+blockers-remember = (ten, tenAgain, refl, refl, refl, refl, at (negsuc 1) (pos 2), at (pos 2) (pos 2), refl, refl)
+
+-- The tests, limits and blocks are right where a wrong definition would still look right.
+pub borders-hold : AllNamed borders
+unfolding everything
+borders-hold = (tt, (tt, (tt, (tt, (tt, (tt, (tt, (tt, (tt, tt)))))))))
+
+-- So are visibility, open pairs and neighbours.
+pub answers-hold : AllNamed answers
+unfolding everything
+answers-hold = (tt, (tt, tt))
+
+-- So are the listing's counts.
+pub counts-hold : AllNamed counts
+unfolding everything
+counts-hold = (tt, tt)
+
+-- Damaged map files are refused with the right number at the right field.
+pub files-hold : AllNamed files
+unfolding everything
+files-hold = (tt, (tt, (tt, (tt, (tt, (tt, (tt, (tt, (tt, (tt, (tt, (tt, (tt, (tt, (tt, (tt, tt))))))))))))))))

@@ -1,0 +1,159 @@
+-- Laws of the maps and sets of specs/Maps.antt; none asks for an order. Assumes nothing.
+use Prim.Native.Nat.{ℕ}
+use native.Mathlib.Omega.{arith}
+use mathlib.Core.Path.{_≡_, refl, sym, _∙_}
+use mathlib.Core.Logic.{_≢_, _⊎_, inl, inr}
+use mathlib.Core.Bool.{Bool, true, false, cond, _||_, false≢true}
+use mathlib.Core.List.{List, [], _∷_, _++_}
+use mathlib.Core.Option.{none, some, Option·map}
+use lib.Dec.{T, eqb, ltb, eqb→eq, eqb-refl}
+use Rattle.model.specs.Maps.{get, put, del, mapV, keys, isSome, has, add, cut, find}
+
+-- ---- Booleans
+pub T→true : (b : Bool) → T b → b ≡ true
+T→true true t = refl
+T→true false t = absurd t
+
+pub notT→false : (b : Bool) → (T b → ⊥) → b ≡ false
+notT→false true f = absurd (f tt)
+notT→false false f = refl
+
+pub true→T : (b : Bool) → b ≡ true → T b
+true→T true e = tt
+true→T false e = absurd (false≢true e)
+
+pub eqb-yes : (n : ℕ) → eqb n n ≡ true
+eqb-yes n = T→true (eqb n n) (eqb-refl n)
+
+pub eqb-no : (m n : ℕ) → m ≢ n → eqb m n ≡ false
+eqb-no m n h = notT→false (eqb m n) (λ t. h (eqb→eq m n t))
+
+pub Or : (a b : Bool) → T (a || b) → T a ⊎ T b
+Or true b t = inl tt
+Or false b t = inr t
+
+pub or-left : (a b : Bool) → T a → T (a || b)
+or-left true b t = tt
+or-left false b t = absurd t
+
+pub or-right : (a b : Bool) → T b → T (a || b)
+or-right true b t = tt
+or-right false b t = t
+
+-- ---- maps
+module _ {A : Type 0} where
+  pub get-put-same : (k : ℕ) (v : A) (m : List (ℕ × A)) → get k (put k v m) ≡ some v
+  unfolding get put
+  get-put-same k v [] = rw (eqb-yes k) refl
+  get-put-same k v (e ∷ m) = go (eqb k (e .0)) (ltb k (e .0)) refl (get-put-same k v m)
+    where
+      go : (b c : Bool) → eqb k (e .0) ≡ b → get k (put k v m) ≡ some v → get k (cond b ((k, v) ∷ m) (cond c ((k, v) ∷ e ∷ m) (e ∷ put k v m))) ≡ some v
+      go true c q ih = rw (eqb-yes k) refl
+      go false true q ih = rw (eqb-yes k) refl
+      go false false q ih = rw q ih
+
+  pub get-put-other : (j k : ℕ) (v : A) (m : List (ℕ × A)) → j ≢ k → get j (put k v m) ≡ get j m
+  unfolding get put
+  get-put-other j k v [] h = rw (eqb-no j k h) refl
+  get-put-other j k v (e ∷ m) h = go (eqb k (e .0)) (ltb k (e .0)) (λ t. eqb→eq k (e .0) t) (get-put-other j k v m h)
+    where
+      go : (b c : Bool) → (T b → k ≡ e .0) → get j (put k v m) ≡ get j m → get j (cond b ((k, v) ∷ m) (cond c ((k, v) ∷ e ∷ m) (e ∷ put k v m))) ≡ get j (e ∷ m)
+      go true c q ih = rw (eqb-no j k h, eqb-no j (e .0) (λ x. h (x ∙ sym (q tt)))) refl
+      go false true q ih = rw (eqb-no j k h) refl
+      go false false q ih = rw ih refl
+
+  pub get-del-same : (k : ℕ) (m : List (ℕ × A)) → get k (del k m) ≡ none
+  unfolding get del
+  get-del-same k [] = refl
+  get-del-same k (e ∷ m) = go (eqb k (e .0)) refl (get-del-same k m)
+    where
+      go : (b : Bool) → eqb k (e .0) ≡ b → get k (del k m) ≡ none → get k (cond b (del k m) (e ∷ del k m)) ≡ none
+      go true q ih = ih
+      go false q ih = rw q ih
+
+  pub get-del-other : (j k : ℕ) (m : List (ℕ × A)) → j ≢ k → get j (del k m) ≡ get j m
+  unfolding get del
+  get-del-other j k [] h = refl
+  get-del-other j k (e ∷ m) h = go (eqb k (e .0)) (λ t. eqb→eq k (e .0) t) (get-del-other j k m h)
+    where
+      go : (b : Bool) → (T b → k ≡ e .0) → get j (del k m) ≡ get j m → get j (cond b (del k m) (e ∷ del k m)) ≡ get j (e ∷ m)
+      go true q ih = rw (eqb-no j (e .0) (λ x. h (x ∙ sym (q tt)))) ih
+      go false q ih = rw ih refl
+
+  pub get-mapV : (f : ℕ → A → A) (k : ℕ) (m : List (ℕ × A)) → get k (mapV f m) ≡ Option·map (f k) (get k m)
+  unfolding get mapV
+  get-mapV f k [] = refl
+  get-mapV f k (e ∷ m) = go (eqb k (e .0)) (λ t. eqb→eq k (e .0) t) (get-mapV f k m)
+    where
+      go : (b : Bool) → (T b → k ≡ e .0) → get k (mapV f m) ≡ Option·map (f k) (get k m)
+          → cond b (some (f (e .0) (e .1))) (get k (mapV f m)) ≡ Option·map (f k) (cond b (some (e .1)) (get k m))
+      go true q ih = rw (q tt) refl
+      go false q ih = ih
+
+  -- a key that has an entry is among the keys, and the other way round
+  pub keys-has : (k : ℕ) (m : List (ℕ × A)) → has k (keys m) ≡ isSome (get k m)
+  unfolding get keys has
+  keys-has k [] = refl
+  keys-has k (e ∷ m) = go (eqb k (e .0)) (keys-has k m)
+    where
+      go : (b : Bool) → has k (keys m) ≡ isSome (get k m) → b || has k (keys m) ≡ isSome (cond b (some (e .1)) (get k m))
+      go true ih = refl
+      go false ih = ih
+
+-- ---- sets
+pub has-add-same : (k : ℕ) (l : List ℕ) → has k (add k l) ≡ true
+unfolding has add
+has-add-same k [] = rw (eqb-yes k) refl
+has-add-same k (x ∷ l) = go (eqb k x) (ltb k x) refl (has-add-same k l)
+  where
+    go : (b c : Bool) → eqb k x ≡ b → has k (add k l) ≡ true → has k (cond b (x ∷ l) (cond c (k ∷ x ∷ l) (x ∷ add k l))) ≡ true
+    go true c q ih = rw q refl
+    go false true q ih = rw (eqb-yes k) refl
+    go false false q ih = rw q ih
+
+pub has-add-other : (j k : ℕ) (l : List ℕ) → j ≢ k → has j (add k l) ≡ has j l
+unfolding has add
+has-add-other j k [] h = rw (eqb-no j k h) refl
+has-add-other j k (x ∷ l) h = go (eqb k x) (ltb k x) (has-add-other j k l h)
+  where
+    go : (b c : Bool) → has j (add k l) ≡ has j l → has j (cond b (x ∷ l) (cond c (k ∷ x ∷ l) (x ∷ add k l))) ≡ has j (x ∷ l)
+    go true c ih = refl
+    go false true ih = rw (eqb-no j k h) refl
+    go false false ih = rw ih refl
+
+pub has-cut-same : (k : ℕ) (l : List ℕ) → has k (cut k l) ≡ false
+unfolding has cut
+has-cut-same k [] = refl
+has-cut-same k (x ∷ l) = go (eqb k x) refl (has-cut-same k l)
+  where
+    go : (b : Bool) → eqb k x ≡ b → has k (cut k l) ≡ false → has k (cond b (cut k l) (x ∷ cut k l)) ≡ false
+    go true q ih = ih
+    go false q ih = rw q ih
+
+pub has-cut-other : (j k : ℕ) (l : List ℕ) → j ≢ k → has j (cut k l) ≡ has j l
+unfolding has cut
+has-cut-other j k [] h = refl
+has-cut-other j k (x ∷ l) h = go (eqb k x) (λ t. eqb→eq k x t) (has-cut-other j k l h)
+  where
+    go : (b : Bool) → (T b → k ≡ x) → has j (cut k l) ≡ has j l → has j (cond b (cut k l) (x ∷ cut k l)) ≡ has j (x ∷ l)
+    go true q ih = rw (eqb-no j x (λ e. h (e ∙ sym (q tt)))) ih
+    go false q ih = rw ih refl
+
+pub has-append : (j : ℕ) (l m : List ℕ) → has j (l ++ m) ≡ has j l || has j m
+unfolding has
+has-append j [] m = refl
+has-append j (x ∷ l) m = go (eqb j x) (has-append j l m)
+  where
+    go : (b : Bool) → has j (l ++ m) ≡ has j l || has j m → b || has j (l ++ m) ≡ b || has j l || has j m
+    go true ih = refl
+    go false ih = ih
+
+-- what `find` finds is a member, and passes
+pub find-has : (p : ℕ → Bool) (l : List ℕ) (k : ℕ) → find p l ≡ some k → T (has k l)
+unfolding find has
+find-has p [] k e = absurd (let z : _≡_ {A = ℕ} 0 1 = cc in omega arith)
+find-has p (x ∷ l) k e = go (p x) e (find-has p l k)
+  where
+    go : (b : Bool) → cond b (some x) (find p l) ≡ some k → (find p l ≡ some k → T (has k l)) → T (eqb k x || has k l)
+    go true q ih = let h : x ≡ k = cc in rw h (or-left (eqb k k) (has k l) (eqb-refl k))
+    go false q ih = or-right (eqb k x) (has k l) (ih q)

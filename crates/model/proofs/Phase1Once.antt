@@ -1,0 +1,195 @@
+-- Each bit is marked at most once in a batch, and what follows for the statuses on the way. Assumes nothing.
+use Prim.Native.Nat.{ℕ, _≤_}
+use native.Mathlib.Decide.{ℕ-discrete}
+use mathlib.Core.Path.{_≡_, refl, sym, ap, _∙_, subst}
+use mathlib.Core.Logic.{_≢_, _⊎_, inl, inr}
+use mathlib.Core.Bool.{Bool, true, false, cond, _||_, _&&_, true≢false}
+use mathlib.Core.List.{List, [], _∷_, _++_}
+use lib.Dec.{T, eqb, eqb→eq, eqb-refl}
+use lib.Ieee.Fits.{and-l, and-r}
+use Rattle.model.specs.Maps.{keys, has}
+use Rattle.model.specs.Cell.{Dir, SW, SE, NW, NE, move}
+use Rattle.model.specs.Corner.{Bits, zero4, bit, setBit, anyBit, sameBits, statusOf}
+use Rattle.model.specs.Batch.{Batch, altered, met, cornerChanges}
+use Rattle.model.specs.Layer.{Mark, marks}
+use Rattle.model.specs.Limits.{maxShift}
+use Rattle.model.specs.ClosedForm.{statusAfter, statusRun, Untouched, Once}
+use Rattle.model.proofs.MapLaws.{Or, or-left, or-right, true→T, notT→false, eqb-yes, eqb-no}
+use Rattle.model.proofs.BitLaws.{no-bit, sameDir, ext-bits}
+use Rattle.model.proofs.SingleLaws.{Single}
+use Rattle.model.proofs.CornerLaws.{Safe, Fits}
+use Rattle.model.proofs.Phase1Status.{to-back, after-bit, run-append}
+
+-- ---- the corner changes
+-- what was checked before is not listed
+altered-fresh : (C C′ done l : List ℕ) (x : ℕ) → T (has x done) → T (has x (keys (altered C C′ done l))) → ⊥
+unfolding altered has keys
+altered-fresh C C′ done [] x h t = t
+altered-fresh C C′ done (k ∷ l) x h t =
+    go (has k done || sameBits (statusOf C k) (statusOf C′ k)) refl t (altered-fresh C C′ (k ∷ done) l x (or-right (eqb x k) (has x done) h))
+  where
+    rest : List (ℕ × Bits)
+    rest = altered C C′ (k ∷ done) l
+
+    old : (s : Bool) → has k done || s ≡ false → x ≡ k → ⊥
+    old s q e = let u : T (has k done) = rw e at h in let v : T false = rw q at (or-left (has k done) s u) in v
+
+    go : (s : Bool) → has k done || sameBits (statusOf C k) (statusOf C′ k) ≡ s → T (has x (keys (cond s rest ((k, statusOf C′ k) ∷ rest))))
+        → (T (has x (keys rest)) → ⊥) → ⊥
+    go true q u f = f u
+    go false q u f = more (Or (eqb x k) (has x (keys rest)) u)
+      where
+        more : T (eqb x k) ⊎ T (has x (keys rest)) → ⊥
+        more (inl v) = old (sameBits (statusOf C k) (statusOf C′ k)) q (eqb→eq x k v)
+        more (inr v) = f v
+
+altered-single : (C C′ done l : List ℕ) → Single (keys (altered C C′ done l))
+unfolding altered has keys
+altered-single C C′ done [] = tt
+altered-single C C′ done (k ∷ l) = go (has k done || sameBits (statusOf C k) (statusOf C′ k)) (altered-single C C′ (k ∷ done) l)
+  where
+    rest : List (ℕ × Bits)
+    rest = altered C C′ (k ∷ done) l
+
+    here : T (has k (k ∷ done))
+    here = or-left (eqb k k) (has k done) (eqb-refl k)
+
+    go : (s : Bool) → Single (keys rest) → Single (keys (cond s rest ((k, statusOf C′ k) ∷ rest)))
+    go true ih = ih
+    go false ih = (altered-fresh C C′ (k ∷ done) l k here, ih)
+
+-- The corner changes of a batch list every cell once.
+pub changes-single : (C C′ : List ℕ) (ch : Batch) → Single (keys (cornerChanges C C′ ch))
+unfolding cornerChanges
+changes-single C C′ ch = altered-single C C′ [] (met ch)
+
+-- ---- directions
+pub same-dir : (D d : Dir) → T (sameDir D d) → D ≡ d
+same-dir SW SW t = refl
+same-dir SW SE t = absurd t
+same-dir SW NW t = absurd t
+same-dir SW NE t = absurd t
+same-dir SE SW t = absurd t
+same-dir SE SE t = refl
+same-dir SE NW t = absurd t
+same-dir SE NE t = absurd t
+same-dir NW SW t = absurd t
+same-dir NW SE t = absurd t
+same-dir NW NW t = refl
+same-dir NW NE t = absurd t
+same-dir NE SW t = absurd t
+same-dir NE SE t = absurd t
+same-dir NE NW t = absurd t
+same-dir NE NE t = refl
+
+no-dir : (D d : Dir) → sameDir D d ≡ false → D ≡ d → ⊥
+no-dir D d e q = same d (sym (ap (λ (z : Dir). sameDir z d) q) ∙ e)
+  where
+    same : (d : Dir) → sameDir d d ≡ false → ⊥
+    same SW e = true≢false e
+    same SE e = true≢false e
+    same NW e = true≢false e
+    same NE e = true≢false e
+
+dir-dec : (D d : Dir) → Dec (D ≡ d)
+dir-dec D d = go (sameDir D d) refl
+  where
+    go : (s : Bool) → sameDir D d ≡ s → Dec (D ≡ d)
+    go true e = yes (same-dir D d (true→T (sameDir D d) e))
+    go false e = no (no-dir D d e)
+
+-- ---- each bit is marked once
+move-apart : (s : ℕ) (D : Dir) (b c : ℕ) → s ≤ maxShift → Safe b → Safe c → move s D b ≡ move s D c → b ≡ c
+move-apart s D b c h f g e = to-back s D b (move s D c) h f (sym e) ∙ sym (to-back s D c (move s D c) h g refl)
+
+-- the marks of other cells do not concern the bits of b's
+untouched : (s : ℕ) (C : List ℕ) (cs : List (ℕ × Bits)) (D : Dir) (b : ℕ) → s ≤ maxShift → Fits C cs → Safe b → (T (has b (keys cs)) → ⊥)
+    → Untouched D (move s D b) (marks s cs)
+unfolding marks keys has
+untouched s C [] D b h f g n = tt
+untouched s C (c ∷ cs) D b h f g n = (at SW, (at SE, (at NW, (at NE, untouched s C cs D b h (f .1 .1) g (λ t. n (or-right (eqb b (c .0)) (has b (keys cs)) t))))))
+  where
+    at : (d : Dir) → move s D b ≡ move s d (c .0) → D ≡ d → ⊥
+    at d e q =
+        let u : move s D b ≡ move s D (c .0) = subst (λ (z : Dir). move s D b ≡ move s z (c .0)) (sym q) e in
+        let v : b ≡ c .0 = move-apart s D b (c .0) h g (f .1 .0) u in
+        n (or-left (eqb b (c .0)) (has b (keys cs)) (rw v (eqb-refl (c .0))))
+
+-- Of cells that are listed once, each far enough from the border, every mark concerns a bit of its own.
+pub marks-once : (s : ℕ) (C : List ℕ) (cs : List (ℕ × Bits)) → s ≤ maxShift → Fits C cs → Single (keys cs) → Once (marks s cs)
+unfolding marks keys
+marks-once s C [] h f u = tt
+marks-once s C (c ∷ cs) h f u = (
+  (other SW SE refl, (other SW NW refl, (other SW NE refl, rest SW))),
+  ((other SE NW refl, (other SE NE refl, rest SE)), ((other NW NE refl, rest NW), (rest NE, marks-once s C cs h (f .1 .1) (u .1)))),
+)
+  where
+    rest : (d : Dir) → Untouched d (move s d (c .0)) (marks s cs)
+    rest d = untouched s C cs d (c .0) h (f .1 .1) (f .1 .0) (u .0)
+
+    other : (a b : Dir) → sameDir a b ≡ false → move s a (c .0) ≡ move s b (c .0) → a ≡ b → ⊥
+    other a b e p q = no-dir a b e q
+
+-- ---- one bit, and one status
+pub bit-same : (d : Dir) (v : Bool) (b : Bits) → bit d (setBit d v b) ≡ v
+bit-same SW v b = refl
+bit-same SE v b = refl
+bit-same NW v b = refl
+bit-same NE v b = refl
+
+-- A bit that no mark concerns stays.
+pub untouched-bit : (ms : List Mark) (d : Dir) (k : ℕ) (b : Bits) → Untouched d k ms → bit d (statusRun ms k b) ≡ bit d b
+unfolding statusRun
+untouched-bit [] d k b u = refl
+untouched-bit (m ∷ ms) d k b u = untouched-bit ms d k (statusAfter m k b) (u .1) ∙ after-bit m k b d ∙ rw miss refl
+  where
+    miss : eqb k (m .at) && sameDir d (m .dir) ≡ false
+    miss =
+        notT→false (eqb k (m .at) && sameDir d (m .dir))
+        (λ t. u .0 (eqb→eq k (m .at) (and-l (eqb k (m .at)) (sameDir d (m .dir)) t)) (same-dir d (m .dir) (and-r (eqb k (m .at)) (sameDir d (m .dir)) t)))
+
+pub after-at : (m : Mark) (k : ℕ) (b : Bits) → k ≡ m .at → statusAfter m k b ≡ setBit (m .dir) (m .on) b
+unfolding statusAfter
+after-at m k b e = rw (e, eqb-yes (m .at)) refl
+
+pub after-off : (m : Mark) (k : ℕ) (b : Bits) → k ≢ m .at → statusAfter m k b ≡ b
+unfolding statusAfter
+after-off m k b h = rw (eqb-no k (m .at) h) refl
+
+-- ---- on the way
+untouched-after : (ms ns : List Mark) (d : Dir) (k : ℕ) → Untouched d k (ms ++ ns) → Untouched d k ns
+untouched-after [] ns d k u = u
+untouched-after (m ∷ ms) ns d k u = untouched-after ms ns d k (u .1)
+
+-- a bit is marked before, or after, or not at all
+halves : (ms ns : List Mark) → Once (ms ++ ns) → (d : Dir) (k : ℕ) → Untouched d k ms ⊎ Untouched d k ns
+halves [] ns o d k = inl tt
+halves (m ∷ ms) ns o d k = go (ℕ-discrete k (m .at)) (dir-dec d (m .dir)) (halves ms ns (o .1) d k)
+  where
+    out : (k ≡ m .at → d ≡ m .dir → ⊥) → Untouched d k ms ⊎ Untouched d k ns → Untouched d k (m ∷ ms) ⊎ Untouched d k ns
+    out f (inl u) = inl (f, u)
+    out f (inr u) = inr u
+
+    go : Dec (k ≡ m .at) → Dec (d ≡ m .dir) → Untouched d k ms ⊎ Untouched d k ns → Untouched d k (m ∷ ms) ⊎ Untouched d k ns
+    go (yes x) (yes y) r = inr (untouched-after ms ns d k (rw (x, y) (o .0)))
+    go (yes x) (no y) r = out (λ a b. y b) r
+    go (no x) y r = out (λ a b. x a) r
+
+-- A point that is there on the way was there before, or is there afterwards.
+pub between : (ms ns : List Mark) → Once (ms ++ ns) → (k : ℕ) (b : Bits) → T (anyBit (statusRun ms k b)) → T (anyBit b) ⊎ T (anyBit (statusRun (ms ++ ns) k b))
+between ms ns o k b t = go (anyBit b) refl (anyBit end) refl
+  where
+    mid : Bits
+    mid = statusRun ms k b
+
+    end : Bits
+    end = statusRun (ms ++ ns) k b
+
+    at : anyBit b ≡ false → anyBit end ≡ false → (d : Dir) → Untouched d k ms ⊎ Untouched d k ns → bit d mid ≡ bit d zero4
+    at e f d (inl u) = untouched-bit ms d k b u ∙ ap (bit d) (no-bit b e)
+    at e f d (inr u) = sym (untouched-bit ns d k mid u) ∙ ap (bit d) (sym (run-append ms ns k b) ∙ no-bit end f)
+
+    go : (x : Bool) → anyBit b ≡ x → (y : Bool) → anyBit end ≡ y → T (anyBit b) ⊎ T (anyBit end)
+    go true e y f = inl (true→T (anyBit b) e)
+    go false e true f = inr (true→T (anyBit end) f)
+    go false e false f = absurd (let z : T (anyBit zero4) = rw (ext-bits mid zero4 (λ d. at e f d (halves ms ns o d k))) at t in z)

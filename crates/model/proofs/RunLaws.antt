@@ -1,0 +1,256 @@
+-- What every operation, accepted or refused, keeps; and so every run. Assumes nothing.
+use Prim.Native.Nat.{ℕ, zero, suc, _≤_, zero-le}
+use native.Mathlib.Nat.{le-refl, suc-ne-zero}
+use mathlib.Core.Path.{_≡_, refl, sym, ap, _∙_, subst}
+use mathlib.Core.Logic.{_≢_, _⊎_, inl, inr}
+use mathlib.Core.Bool.{Bool, true, false, not, cond, _||_, true≢false}
+use mathlib.Core.List.{List, [], _∷_, _++_}
+use lib.Dec.{T, eqb, eqb→eq}
+use lib.ListN.{length}
+use lib.IntN.{natAbs}
+use lib.Ieee.{Float, lt, le, eq}
+use Rattle.ieee.specs.Constants.{nought}
+use mathlib.Core.Option.{some, Option·none-ne-some}
+use Rattle.model.specs.Maps.{has, keys, get, Asc}
+use Rattle.model.specs.Limits.{maxCoordinate, maxCells, maxPoints}
+use Rattle.model.specs.Cell.{key}
+use Rattle.model.specs.Corner.{zero4, corner, statusOf, cornerCells}
+use Rattle.model.specs.Batch.{Batch, cellsAfter, confirmed, cornerChanges}
+use Rattle.model.specs.Layer.{edge, line, update}
+use Rattle.model.specs.Good.{bitsIn, want, Inside, Good}
+use Rattle.model.specs.Map.{Map, Entry, Op, batch, radius, toBatch, shiftOf, tests, emptyLayer, fresh, changed, rebuilt, next}
+use Rattle.model.specs.Refusal.{Checks, firstOf, verdict, short, badSize, badRadius, before, unsorted, offMap, outside, crowded, packed, judge, refusal, unless, step, run, nothing, refuseOpen, opened}
+use Rattle.model.specs.Demand3.{told, history, lastWord}
+use Rattle.model.proofs.MapLaws.{Or}
+use Rattle.model.proofs.OrderLaws.{asc-down, no-ltb}
+use Rattle.model.proofs.BatchLaws.{cells-last}
+use Rattle.model.proofs.LayerLaws.{change-good, rebuild-good}
+use Rattle.model.proofs.KeyLaws.{Fair, key-inside, key-lt}
+use Rattle.model.proofs.TestLaws.{not-false, lawful, tests-shift}
+
+-- ---- a batch that passes its checks: its keys ascend, and lie inside the batch coordinates
+or-false : (a b : Bool) → a || b ≡ false → (a ≡ false) × (b ≡ false)
+or-false true b e = absurd (true≢false e)
+or-false false b e = (refl, e)
+
+fair : (e : Entry) (l : List Entry) → outside (e ∷ l) ≡ false → Fair e × (outside l ≡ false)
+unfolding outside
+fair e l q =
+    let r = or-false (offMap maxCoordinate (e .x) || offMap maxCoordinate (e .y)) (outside l) q in
+    let s = or-false (offMap maxCoordinate (e .x)) (offMap maxCoordinate (e .y)) (r .0) in
+    (record { nearX = no-ltb maxCoordinate (natAbs (e .x)) (s .0); nearY = no-ltb maxCoordinate (natAbs (e .y)) (s .1) }, r .1)
+
+batch-asc : (a : Entry) (l : List Entry) → unsorted (a ∷ l) ≡ false → outside (a ∷ l) ≡ false → Asc (key (a .x) (a .y)) (toBatch (a ∷ l))
+unfolding toBatch unsorted
+batch-asc a [] s o = (le-refl (key (a .x) (a .y)), tt)
+batch-asc a (b ∷ l) s o =
+    let r = or-false (not (before a b)) (unsorted (b ∷ l)) s in
+    let f = fair a (b ∷ l) o in
+    let g = fair b l (f .1) in (
+      le-refl (key (a .x) (a .y)),
+      asc-down (suc (key (a .x) (a .y))) (key (b .x) (b .y)) (toBatch (b ∷ l)) (key-lt a b (f .0) (g .0) (not-false (before a b) (r .0))) (batch-asc b l (r .1) (f .1)),
+    )
+
+pub batch-ascends : (l : List Entry) → unsorted l ≡ false → outside l ≡ false → Asc 0 (toBatch l)
+unfolding toBatch
+batch-ascends [] s o = tt
+batch-ascends (a ∷ l) s o = asc-down 0 (key (a .x) (a .y)) (toBatch (a ∷ l)) zero-le (batch-asc a l s o)
+
+pub batch-inside : (l : List Entry) → outside l ≡ false → (x : ℕ) → T (has x (keys (toBatch l))) → Inside maxCoordinate x
+unfolding toBatch keys has
+batch-inside [] o x t = absurd t
+batch-inside (a ∷ l) o x t = go (Or (eqb x (key (a .x) (a .y))) (has x (keys (toBatch l))) t) (batch-inside l (fair a l o .1) x)
+  where
+    f : Fair a
+    f = fair a l o .0
+
+    go : T (eqb x (key (a .x) (a .y))) ⊎ T (has x (keys (toBatch l))) → (T (has x (keys (toBatch l))) → Inside maxCoordinate x) → Inside maxCoordinate x
+    go (inl u) ih = subst (Inside maxCoordinate) (sym (eqb→eq x (key (a .x) (a .y)) u)) (key-inside (a .x) (a .y) (f .nearX) (f .nearY))
+    go (inr u) ih = ih u
+
+-- ---- what is answered with 0 has passed every check
+first-zero : (n : ℕ) (b : Bool) (l : List (ℕ × Bool)) → firstOf ((suc n, b) ∷ l) ≡ 0 → (b ≡ false) × (firstOf l ≡ 0)
+unfolding firstOf
+first-zero n true l e = absurd (suc-ne-zero n e)
+first-zero n false l e = (refl, e)
+
+pub record Passed (c : Checks) : Type 0 where
+  pub short : c .short ≡ false
+  pub size : c .size ≡ false
+  pub radius : c .radius ≡ false
+  pub long : c .long ≡ false
+  pub disorder : c .disorder ≡ false
+  pub outside : c .outside ≡ false
+  pub cells : c .cells ≡ false
+  pub points : c .points ≡ false
+  pub query : c .query ≡ false
+
+pub passed : (c : Checks) → verdict c ≡ 0 → Passed c
+unfolding verdict
+passed c e =
+    let l8 : List (ℕ × Bool) = (8, c .query) ∷ [] in
+    let l7 : List (ℕ × Bool) = (7, c .points) ∷ l8 in
+    let l6 : List (ℕ × Bool) = (6, c .cells) ∷ l7 in
+    let l5 : List (ℕ × Bool) = (5, c .outside) ∷ l6 in
+    let l4 : List (ℕ × Bool) = (4, c .disorder) ∷ l5 in
+    let l3 : List (ℕ × Bool) = (3, c .long) ∷ l4 in
+    let l2 : List (ℕ × Bool) = (2, c .radius) ∷ l3 in
+    let l1 : List (ℕ × Bool) = (1, c .size) ∷ l2 in
+    let e9 = first-zero 8 (c .short) l1 e in
+    let e1 = first-zero 0 (c .size) l2 (e9 .1) in
+    let e2 = first-zero 1 (c .radius) l3 (e1 .1) in
+    let e3 = first-zero 2 (c .long) l4 (e2 .1) in
+    let e4 = first-zero 3 (c .disorder) l5 (e3 .1) in
+    let e5 = first-zero 4 (c .outside) l6 (e4 .1) in
+    let e6 = first-zero 5 (c .cells) l7 (e5 .1) in
+    let e7 = first-zero 6 (c .points) l8 (e6 .1) in
+    let e8 = first-zero 7 (c .query) [] (e7 .1) in
+    record { short = e9 .0; size = e1 .0; radius = e2 .0; long = e3 .0; disorder = e4 .0; outside = e5 .0; cells = e6 .0; points = e7 .0; query = e8 .0 }
+
+-- ---- a map that a call could give
+abbrev pub Sound : Map → Type 0
+Sound m = Good (shiftOf (m .size) (m .layer .radius)) (m .cells) (m .layer)
+
+no-bits : (s k : ℕ) → want s [] k ≡ zero4
+unfolding want statusOf corner has
+no-bits s k = refl
+
+empty-sound : (s : ℕ) (r : Float) → Good s [] (emptyLayer r)
+unfolding bitsIn get edge line has
+empty-sound s r =
+    record {
+      cellOrder = tt;
+      pointOrder = tt;
+      inside = λ k u. absurd u;
+      points = λ k. sym (no-bits s k);
+      real = λ k. refl;
+      pairs = λ p q. (λ u. absurd u, λ J. absurd (let v : T false = rw (no-bits s p) at (J .one) in v));
+      twins = λ p q. refl;
+      edgeBlock = λ p q b e. absurd (Option·none-ne-some (some b) e);
+      pointBlock = λ k b p e. absurd (Option·none-ne-some p e);
+    }
+
+-- what an accepted operation leaves
+pub next-sound : (o : Op) (m : Map) → refusal o m ≡ 0 → Sound m → Sound (next o m)
+unfolding refusal judge next changed rebuilt update
+next-sound (batch l) m e g =
+    let p = passed _ e in
+    let t = tests (m .size) (m .layer .radius) in
+    let C = cellsAfter (toBatch l) (m .cells) in
+    let ch = confirmed (toBatch l) (m .cells) in
+    subst (λ (z : ℕ). Good z C (update t C ch (cornerChanges (m .cells) C ch) (m .layer))) (tests-shift (m .size) (m .layer .radius))
+    (change-good t (lawful (m .size) (m .layer .radius) (p .radius)) (m .cells) (m .layer) (subst (λ (z : ℕ). Good z (m .cells) (m .layer)) (sym (tests-shift (m .size) (m .layer .radius))) g)
+    (toBatch l) (batch-ascends l (p .disorder) (p .outside)) (batch-inside l (p .outside)))
+next-sound (radius r) m e g =
+    let p = passed _ e in
+    let t = tests (m .size) r in
+    subst (λ (z : ℕ). Good z (m .cells) (update t (m .cells) [] (cornerCells (m .cells)) (emptyLayer r))) (tests-shift (m .size) r)
+    (rebuild-good t (lawful (m .size) r (or-false (badRadius (m .size) (m .layer .radius)) (badRadius (m .size) r) (p .radius) .1)) (m .cells) (g .cellOrder) (g .inside) r)
+
+-- whatever an accepted operation keeps, every operation keeps, and every run
+pub run-keeps : (P : Map → Type 0) → ((o : Op) (m : Map) → refusal o m ≡ 0 → P m → P (next o m)) → (os : List Op) (m : Map) → P m → P (run os m)
+unfolding run step refusal
+run-keeps P f [] m p = p
+run-keeps P f (o ∷ os) m p = run-keeps P f os (unless (judge [] o m (next o m)) (next o m) m) (go (judge [] o m (next o m)) refl)
+  where
+    go : (n : ℕ) → judge [] o m (next o m) ≡ n → P (unless n (next o m) m)
+    go zero e = f o m e p
+    go (suc n) e = p
+
+pub open-sound : (c r : Float) → Sound (opened c r)
+unfolding opened
+open-sound c r = go (refuseOpen [] c r)
+  where
+    go : (n : ℕ) → Sound (unless n (fresh c r) nothing)
+    go zero = empty-sound (shiftOf c r) r
+    go (suc n) = empty-sound (shiftOf nought nought) nought
+
+-- ---- the occupied cells are those last accepted
+word-append : (b h : Batch) (k : ℕ) (v : Bool) → lastWord (b ++ h) k v ≡ lastWord h k (lastWord b k v)
+unfolding lastWord
+word-append [] h k v = refl
+word-append (e ∷ b) h k v = word-append b h k (cond (eqb k (e .0)) (e .1) v)
+
+next-cells : (o : Op) (m : Map) (k : ℕ) → has k (next o m .cells) ≡ lastWord (told o 0) k (has k (m .cells))
+unfolding next changed rebuilt told lastWord
+next-cells (batch l) m k = cells-last (toBatch l) (m .cells) k
+next-cells (radius r) m k = refl
+
+refused-told : (o : Op) (n : ℕ) → told o (suc n) ≡ []
+unfolding told
+refused-told (batch l) n = refl
+refused-told (radius r) n = refl
+
+step-cells : (o : Op) (m : Map) (k : ℕ) → has k (step o m .cells) ≡ lastWord (told o (refusal o m)) k (has k (m .cells))
+unfolding step refusal lastWord
+step-cells o m k = go (judge [] o m (next o m))
+  where
+    go : (n : ℕ) → has k (unless n (next o m) m .cells) ≡ lastWord (told o n) k (has k (m .cells))
+    go zero = next-cells o m k
+    go (suc n) = rw (refused-told o n) refl
+
+pub run-cells : (os : List Op) (m : Map) (k : ℕ) → has k (run os m .cells) ≡ lastWord (history os m) k (has k (m .cells))
+unfolding run history lastWord
+run-cells [] m k = refl
+run-cells (o ∷ os) m k =
+    run-cells os (step o m) k ∙ ap (lastWord (history os (step o m)) k) (step-cells o m k) ∙ sym (word-append (told o (refusal o m)) (history os (step o m)) k (has k (m .cells)))
+
+pub open-cells : (c r : Float) → opened c r .cells ≡ []
+unfolding opened
+open-cells c r = go (refuseOpen [] c r)
+  where
+    go : (n : ℕ) → unless n (fresh c r) nothing .cells ≡ []
+    go zero = refl
+    go (suc n) = refl
+
+-- ---- room: what is accepted keeps the limits
+abbrev pub Roomy : Map → Type 0
+Roomy m = (length (m .cells) ≤ maxCells) × (length (m .layer .points) ≤ maxPoints)
+
+roomy : (m : Map) → crowded m ≡ false → packed m ≡ false → Roomy m
+roomy m p q = (no-ltb maxCells (length (m .cells)) p, no-ltb maxPoints (length (m .layer .points)) q)
+
+pub next-roomy : (o : Op) (m : Map) → refusal o m ≡ 0 → Roomy (next o m)
+unfolding refusal judge
+next-roomy (batch l) m e =
+    let p = passed _ e in
+    let n = next (batch l) m in
+    roomy n (or-false (crowded m) (crowded n) (p .cells) .1) (or-false (packed m) (packed n) (p .points) .1)
+next-roomy (radius r) m e =
+    let p = passed _ e in
+    let n = next (radius r) m in
+    roomy n (same-cells ∙ p .cells) (or-false (packed m) (packed n) (p .points) .1)
+  where
+    same-cells : crowded (next (radius r) m) ≡ crowded m
+    same-cells = unfold next rebuilt in refl
+
+pub open-roomy : (c r : Float) → Roomy (opened c r)
+unfolding opened
+open-roomy c r = go (refuseOpen [] c r)
+  where
+    go : (n : ℕ) → Roomy (unless n (fresh c r) nothing)
+    go zero = (zero-le, zero-le)
+    go (suc n) = (zero-le, zero-le)
+
+-- ---- a refused operation changes nothing
+pub refused-step : (o : Op) (m : Map) → refusal o m ≢ 0 → step o m ≡ m
+unfolding step refusal
+refused-step o m h = go (judge [] o m (next o m)) refl
+  where
+    go : (n : ℕ) → judge [] o m (next o m) ≡ n → unless n (next o m) m ≡ m
+    go zero e = absurd (h e)
+    go (suc n) e = refl
+
+nothing-refuses : (o : Op) → refusal o nothing ≡ 1
+unfolding refusal judge verdict firstOf short badSize le lt eq
+nothing-refuses (batch l) = refl
+nothing-refuses (radius r) = refl
+
+-- what a refused opening gives is refused with 1 ever after
+pub refused-opening : (c r : Float) → refuseOpen [] c r ≢ 0 → (o : Op) → refusal o (opened c r) ≡ 1
+unfolding opened
+refused-opening c r h o = go (refuseOpen [] c r) refl
+  where
+    go : (n : ℕ) → refuseOpen [] c r ≡ n → refusal o (unless n (fresh c r) nothing) ≡ 1
+    go zero e = absurd (h e)
+    go (suc n) e = nothing-refuses o
