@@ -4,13 +4,13 @@ use native.Mathlib.Decide.{ℕ-discrete}
 use native.Mathlib.Omega.{arith}
 use mathlib.Core.Path.{_≡_, refl, sym, ap, _∙_}
 use mathlib.Core.Logic.{_≢_, _⊎_, inl, inr}
-use mathlib.Core.Bool.{Bool, true, false, not, cond, _&&_, _||_, Bool·beq, true≢false, false≢true}
+use mathlib.Core.Bool.{Bool, true, false, not, cond, _&&_, _||_, Bool·beq, true≢false}
 use mathlib.Core.List.{List, [], _∷_}
 use lib.Dec.{T, eqb, eqb-refl}
 use Rattle.model.specs.Maps.{keys, has, Asc, AscL}
 use Rattle.model.specs.Batch.{Batch, write, cellsAfter, confirmed}
 use Rattle.model.specs.Demand3.{lastWord}
-use Rattle.model.proofs.MapLaws.{eqb-yes, eqb-no, true→T, Or, or-left, or-right, has-add-same, has-add-other, has-cut-same, has-cut-other}
+use Rattle.model.proofs.MapLaws.{eqb-yes, eqb-no, true→T, Or, or-left, or-right, has-add-same, has-add-other, has-cut-same, has-cut-other, beq-same}
 use Rattle.model.proofs.OrderLaws.{ascL-add, ascL-cut}
 
 -- ---- one write
@@ -37,14 +37,8 @@ write-word x k v C = go (ℕ-discrete x k)
 write-idle : (x k : ℕ) (v : Bool) (C : List ℕ) → Bool·beq (has k C) v ≡ true → has x (write k v C) ≡ has x C
 write-idle x k v C q = go (ℕ-discrete x k)
   where
-    same : (a b : Bool) → Bool·beq a b ≡ true → a ≡ b
-    same true true e = refl
-    same true false e = absurd (false≢true e)
-    same false true e = absurd (false≢true e)
-    same false false e = refl
-
     go : Dec (x ≡ k) → has x (write k v C) ≡ has x C
-    go (yes e) = rw e (write-same k v C ∙ sym (same (has k C) v q))
+    go (yes e) = rw e (write-same k v C ∙ sym (beq-same (has k C) v (true→T (Bool·beq (has k C) v) q)))
     go (no h) = write-other x k v C h
 
 -- ---- a cell is occupied after a batch exactly when the last entry that names it says so, or none names it and it was

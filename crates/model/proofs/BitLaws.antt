@@ -1,4 +1,4 @@
--- Laws of a status and of the visible quadrant.
+-- Laws of a status and of the visible quadrant. Assumes nothing.
 use mathlib.Core.Path.{_≡_, refl, sym, subst}
 use Prim.Native.Nat.{ℕ}
 use mathlib.Core.Bool.{Bool, true, false, not, cond, _||_, true≢false}

@@ -1,4 +1,5 @@
--- The corner changes of a batch: every cell whose status altered is listed, with its new status.
+-- The corner changes of a batch: every cell whose status altered is listed, with its new status. Assumes nothing.
+use lib.Ieee.Fits.{and-l, and-r}
 use Prim.Native.Nat.{ℕ, zero, suc, _+_, _-_, _*_, _≤_, _<_}
 use native.Mathlib.Decide.{ℕ-discrete}
 use native.Mathlib.Nat.{le-of-suc-le-suc, not-suc-le-zero}
@@ -15,7 +16,7 @@ use Rattle.model.specs.Corner.{Bits, zero4, anyBit, sameBits, corner, st
 use Rattle.model.specs.Batch.{Batch, altered, met, cornerChanges}
 use Rattle.model.specs.Limits.{maxCoordinate}
 use Rattle.model.specs.Good.{Inside}
-use Rattle.model.proofs.MapLaws.{true→T, Or, or-left, or-right, has-append}
+use Rattle.model.proofs.MapLaws.{true→T, Or, or-left, or-right, has-append, decT, beq-same}
 use Rattle.model.proofs.BitLaws.{no-bit}
 
 -- far enough from the lower border of the keys for a shift of 64, and for a neighbour's too
@@ -125,20 +126,6 @@ abbrev pub Fits : List ℕ → List (ℕ × Bits) → Type 0
 Fits C [] = Unit {0}
 Fits C (c ∷ cs) = (c .1 ≡ statusOf C (c .0)) × (Safe (c .0) × Fits C cs)
 
-and-left : (a b : Bool) → T (a && b) → T a
-and-left true b t = tt
-and-left false b t = t
-
-and-right : (a b : Bool) → T (a && b) → T b
-and-right true b t = t
-and-right false b t = absurd t
-
-beq-T : (a b : Bool) → T (Bool·beq a b) → a ≡ b
-beq-T true true e = refl
-beq-T true false e = absurd e
-beq-T false true e = absurd e
-beq-T false false e = refl
-
 pub same-bits : (a b : Bits) → T (sameBits a b) → a ≡ b
 unfolding sameBits
 same-bits a b t =
@@ -146,13 +133,13 @@ same-bits a b t =
     let x = Bool·beq (a .se) (b .se) in
     let y = Bool·beq (a .nw) (b .nw) in
     let z = Bool·beq (a .ne) (b .ne) in
-    let p = and-left (w && x && y) z t in
-    let q = and-left (w && x) y p in
+    let p = and-l (w && x && y) z t in
+    let q = and-l (w && x) y p in
     λ i. record {
-      sw = beq-T (a .sw) (b .sw) (and-left w x q) i;
-      se = beq-T (a .se) (b .se) (and-right w x q) i;
-      nw = beq-T (a .nw) (b .nw) (and-right (w && x) y p) i;
-      ne = beq-T (a .ne) (b .ne) (and-right (w && x && y) z t) i;
+      sw = beq-same (a .sw) (b .sw) (and-l w x q) i;
+      se = beq-same (a .se) (b .se) (and-r w x q) i;
+      nw = beq-same (a .nw) (b .nw) (and-r (w && x) y p) i;
+      ne = beq-same (a .ne) (b .ne) (and-r (w && x && y) z t) i;
     }
 
 pub altered-fits : (C C′ done l : List ℕ) → ((x : ℕ) → T (has x l) → Safe x) → Fits C′ (altered C C′ done l)
@@ -200,10 +187,6 @@ altered-has C C′ done (k ∷ l) b t n = go (ℕ-discrete b k) (altered-has C C
         → T (has b (keys (cond (has k done || sameBits (statusOf C k) (statusOf C′ k)) rest ((k, statusOf C′ k) ∷ rest)))) ⊎ (statusOf C b ≡ statusOf C′ b)
     go (yes e) ih = here e (has k done || sameBits (statusOf C k) (statusOf C′ k)) refl
     go (no h) ih = deeper (has k done || sameBits (statusOf C k) (statusOf C′ k)) (ih (inner h (Or (eqb b k) (has b l) t)) (fresh h))
-
-decT : (b : Bool) → T b ⊎ (T b → ⊥)
-decT true = inl tt
-decT false = inr (λ t. t)
 
 -- ---- both facts of the corner changes
 module _ (C C′ : List ℕ) (ch : Batch) (kept : (x : ℕ) → T (has x (keys ch)) ⊎ (has x C′ ≡ has x C)) (inside : (x : ℕ) → T (has x (keys ch)) → Inside maxCoordinate x) where

@@ -1,5 +1,5 @@
 -- Demand 3 holds of every run from every opening. Assumes nothing.
-use Prim.Native.Nat.{ℕ, zero, suc, _+_, _≤_}
+use Prim.Native.Nat.{ℕ, _+_, _≤_}
 use mathlib.Core.Path.{_≡_, refl, sym, ap, _∙_, subst}
 use mathlib.Core.Bool.{true, false, _&&_}
 use mathlib.Core.List.{List, []}
@@ -19,12 +19,12 @@ use Rattle.model.specs.Batch.{cellsAfter, confirmed, cornerChanges}
 use Rattle.model.specs.Corner.{cornerCells}
 use Rattle.model.specs.Layer.{edge, update}
 use Rattle.model.specs.Good.{bitsIn, want, Inside}
-use Rattle.model.specs.Map.{Map, Op, batch, radius, toBatch, shiftOf, tests, emptyLayer, fresh, changed, rebuilt, next}
-use Rattle.model.specs.Refusal.{refusal, unless, run, nothing, refuseOpen, opened}
+use Rattle.model.specs.Map.{Map, Op, batch, radius, toBatch, shiftOf, tests, emptyLayer, changed, rebuilt, next}
+use Rattle.model.specs.Refusal.{refusal, run, opened}
 use Rattle.model.specs.Demand3.{history, lastWord, Demand}
 use Rattle.model.proofs.TestLaws.{shift-le, tests-shift}
 use Rattle.model.proofs.LayerLaws.{joined-eq}
-use Rattle.model.proofs.RunLaws.{Sound, run-keeps, next-sound, open-sound, run-cells, open-cells, Roomy, next-roomy, open-roomy, refused-step}
+use Rattle.model.proofs.RunLaws.{Sound, run-keeps, next-sound, opened-is, open-sound, run-cells, open-cells, Roomy, next-roomy, open-roomy, refused-step}
 use Rattle.model.proofs.YardSquare.{square-whole}
 use Rattle.model.proofs.YardBlockers.{Blocked, change-exact, rebuild-exact}
 use Rattle.model.proofs.PointPlaces.{point-inside}
@@ -58,12 +58,8 @@ next-kept : (o : Op) (m : Map) → refusal o m ≡ 0 → Kept m → Kept (next o
 next-kept o m e k = let s = next-sound o m e (k .0) in (s, next-blocked o m s (k .1), next-roomy o m e)
 
 open-blocked : (c r : Float) → YardBlocked (opened c r)
-unfolding opened get
-open-blocked c r = go (refuseOpen [] c r)
-  where
-    go : (n : ℕ) → YardBlocked (unless n (fresh c r) nothing)
-    go zero f g y k p e = absurd (Option·none-ne-some p e)
-    go (suc n) f g y k p e = absurd (Option·none-ne-some p e)
+unfolding get
+open-blocked c r = opened-is YardBlocked c r (λ e f g y k p q. absurd (Option·none-ne-some p q)) (λ f g y k p q. absurd (Option·none-ne-some p q))
 
 yard-shift : (c r : Float) → inYard c r ≡ true → shiftOf c r ≤ maxShift
 unfolding inYard

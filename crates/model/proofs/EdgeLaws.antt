@@ -1,4 +1,4 @@
--- Laws of the pairs: what `edge` reads after each change of the nested map.
+-- Laws of the pairs: what `edge` reads after each change of the nested map. Assumes nothing.
 use Prim.Native.Nat.{ℕ}
 use native.Mathlib.Decide.{ℕ-discrete}
 use mathlib.Core.Path.{_≡_, refl, ap, _∙_}

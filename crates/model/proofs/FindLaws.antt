@@ -1,8 +1,8 @@
--- Laws of `find`: what it finds passes, where it finds nothing no member passes, and only the members' answers count. Assumes nothing.
+-- Laws of `find`: what it finds is a member and passes, where it finds nothing no member passes, and only the members' answers count. Assumes nothing.
 use Prim.Native.Nat.{ℕ}
 use mathlib.Core.Path.{_≡_, refl, subst}
 use mathlib.Core.Logic.{_⊎_, inl, inr}
-use mathlib.Core.Bool.{Bool, true, false, cond}
+use mathlib.Core.Bool.{Bool, true, false, cond, _||_}
 use mathlib.Core.List.{List, [], _∷_}
 use mathlib.Core.Option.{none, some, Option·none-ne-some, Option·some-ne-none, Option·some-injective}
 use lib.Dec.{T, eqb, eqb→eq, eqb-refl}
@@ -15,6 +15,16 @@ unfolding find has
 find-same p q [] f = refl
 find-same p q (x ∷ l) f =
     rw (f x (or-left (eqb x x) (has x l) (eqb-refl x)), find-same p q l (λ y h. f y (or-right (eqb y x) (has y l) h))) refl
+
+-- what is found is a member
+pub find-has : (p : ℕ → Bool) (l : List ℕ) (k : ℕ) → find p l ≡ some k → T (has k l)
+unfolding find has
+find-has p [] k e = absurd (Option·none-ne-some k e)
+find-has p (x ∷ l) k e = go (p x) e (find-has p l k)
+  where
+    go : (b : Bool) → cond b (some x) (find p l) ≡ some k → (find p l ≡ some k → T (has k l)) → T (eqb k x || has k l)
+    go true q ih = subst (λ (z : ℕ). T (eqb z x || has z l)) (Option·some-injective x k q) (or-left (eqb x x) (has x l) (eqb-refl x))
+    go false q ih = or-right (eqb k x) (has k l) (ih q)
 
 -- what is found passes
 pub find-passes : (p : ℕ → Bool) (l : List ℕ) (k : ℕ) → find p l ≡ some k → T (p k)

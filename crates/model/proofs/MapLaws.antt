@@ -1,13 +1,12 @@
 -- Laws of the maps and sets of specs/Maps.antt; none asks for an order. Assumes nothing.
 use Prim.Native.Nat.{ℕ}
-use native.Mathlib.Omega.{arith}
 use mathlib.Core.Path.{_≡_, refl, sym, _∙_}
 use mathlib.Core.Logic.{_≢_, _⊎_, inl, inr}
-use mathlib.Core.Bool.{Bool, true, false, cond, _||_, false≢true}
+use mathlib.Core.Bool.{Bool, true, false, cond, _||_, Bool·beq, false≢true}
 use mathlib.Core.List.{List, [], _∷_, _++_}
 use mathlib.Core.Option.{none, some, Option·map}
 use lib.Dec.{T, eqb, ltb, eqb→eq, eqb-refl}
-use Rattle.model.specs.Maps.{get, put, del, mapV, keys, isSome, has, add, cut, find}
+use Rattle.model.specs.Maps.{get, put, del, mapV, keys, isSome, has, add, cut}
 
 -- ---- Booleans
 pub T→true : (b : Bool) → T b → b ≡ true
@@ -17,6 +16,16 @@ T→true false t = absurd t
 pub notT→false : (b : Bool) → (T b → ⊥) → b ≡ false
 notT→false true f = absurd (f tt)
 notT→false false f = refl
+
+pub decT : (b : Bool) → T b ⊎ (T b → ⊥)
+decT true = inl tt
+decT false = inr (λ t. t)
+
+pub beq-same : (a b : Bool) → T (Bool·beq a b) → a ≡ b
+beq-same true true e = refl
+beq-same true false e = absurd e
+beq-same false true e = absurd e
+beq-same false false e = refl
 
 pub true→T : (b : Bool) → b ≡ true → T b
 true→T true e = tt
@@ -147,13 +156,3 @@ has-append j (x ∷ l) m = go (eqb j x) (has-append j l m)
     go : (b : Bool) → has j (l ++ m) ≡ has j l || has j m → b || has j (l ++ m) ≡ b || has j l || has j m
     go true ih = refl
     go false ih = ih
-
--- what `find` finds is a member, and passes
-pub find-has : (p : ℕ → Bool) (l : List ℕ) (k : ℕ) → find p l ≡ some k → T (has k l)
-unfolding find has
-find-has p [] k e = absurd (let z : _≡_ {A = ℕ} 0 1 = cc in omega arith)
-find-has p (x ∷ l) k e = go (p x) e (find-has p l k)
-  where
-    go : (b : Bool) → cond b (some x) (find p l) ≡ some k → (find p l ≡ some k → T (has k l)) → T (eqb k x || has k l)
-    go true q ih = let h : x ≡ k = cc in rw h (or-left (eqb k k) (has k l) (eqb-refl k))
-    go false q ih = or-right (eqb k x) (has k l) (ih q)

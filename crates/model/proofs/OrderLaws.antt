@@ -1,4 +1,4 @@
--- What keeps entries, and cells, ascending.
+-- What keeps entries, and cells, ascending. Assumes nothing.
 use Prim.Native.Nat.{ℕ, suc, _≤_, _<_}
 use native.Mathlib.Omega.{arith}
 use mathlib.Core.Path.{_≡_, refl, sym, ap, _∙_}

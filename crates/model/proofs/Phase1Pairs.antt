@@ -12,7 +12,7 @@ use Rattle.model.specs.Cell.{Dir}
 use Rattle.model.specs.Corner.{Bits, zero4, setBit, anyBit, sees}
 use Rattle.model.specs.Layer.{Tests, Point, Points, Edges, Work, line, edge, hide, erase, raise, lower, mark}
 use Rattle.model.specs.Good.{bitsOf, bitsIn, Joined}
-use Rattle.model.proofs.MapLaws.{get-put-same, get-put-other, get-del-same, get-del-other, has-append, or-left, or-right, T→true, true→T}
+use Rattle.model.proofs.MapLaws.{get-put-same, get-put-other, get-del-same, get-del-other, has-append, or-left, or-right, T→true, true→T, decT}
 use Rattle.model.proofs.BitLaws.{set-any, sees-set, sees-clear}
 use Rattle.model.proofs.EdgeLaws.{Twins, Gone, hide-keep, hidden, forgot-off, forgot-row, forgot-col}
 
@@ -111,10 +111,6 @@ pub data Look (a c k : ℕ) (b : Bits) : Type 0 where
   clear : (a ≡ k → T (sees c k b)) → (c ≡ k → T (sees a k b)) → Look a c k b
   left : a ≡ k → (T (sees c k b) → ⊥) → Look a c k b
   right : c ≡ k → (T (sees a k b) → ⊥) → Look a c k b
-
-pub decT : (b : Bool) → T b ⊎ (T b → ⊥)
-decT true = inl tt
-decT false = inr (λ t. t)
 
 pub look : (a c k : ℕ) (b : Bits) → Look a c k b
 look a c k b = go (ℕ-discrete a k) (ℕ-discrete c k) (decT (sees c k b)) (decT (sees a k b))

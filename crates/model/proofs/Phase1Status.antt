@@ -155,13 +155,13 @@ run-append [] ns k b = refl
 run-append (m ∷ ms) ns k b = run-append ms ns k (statusAfter m k b)
 
 -- ---- there and back again
-pub to-back : (s : ℕ) (D : Dir) (b k : ℕ) → s ≤ 64 → Safe b → k ≡ move s D b → b ≡ move s (opp D) k
+pub to-back : (s : ℕ) (D : Dir) (b k : ℕ) → s ≤ maxShift → Safe b → k ≡ move s D b → b ≡ move s (opp D) k
 to-back s SW b k h f e = omega arith
 to-back s SE b k h f e = omega arith
 to-back s NW b k h f e = omega arith
 to-back s NE b k h f e = omega arith
 
-pub from-back : (s : ℕ) (D : Dir) (b k : ℕ) → s ≤ 64 → Safe b → b ≡ move s (opp D) k → k ≡ move s D b
+pub from-back : (s : ℕ) (D : Dir) (b k : ℕ) → s ≤ maxShift → Safe b → b ≡ move s (opp D) k → k ≡ move s D b
 from-back s SW b k h f e = omega arith
 from-back s SE b k h f e = omega arith
 from-back s NW b k h f e = omega arith

@@ -157,13 +157,17 @@ run-keeps P f (o ∷ os) m p = run-keeps P f os (unless (judge [] o m (next o m)
     go zero e = f o m e p
     go (suc n) e = p
 
-pub open-sound : (c r : Float) → Sound (opened c r)
+-- an opening gives a fresh map, or, where it is refused, the map that is all zero
+pub opened-is : (P : Map → Type 0) (c r : Float) → (refuseOpen [] c r ≡ 0 → P (fresh c r)) → P nothing → P (opened c r)
 unfolding opened
-open-sound c r = go (refuseOpen [] c r)
+opened-is P c r f p = go (refuseOpen [] c r) refl
   where
-    go : (n : ℕ) → Sound (unless n (fresh c r) nothing)
-    go zero = empty-sound (shiftOf c r) r
-    go (suc n) = empty-sound (shiftOf nought nought) nought
+    go : (n : ℕ) → refuseOpen [] c r ≡ n → P (unless n (fresh c r) nothing)
+    go zero e = f e
+    go (suc n) e = p
+
+pub open-sound : (c r : Float) → Sound (opened c r)
+open-sound c r = opened-is Sound c r (λ e. empty-sound (shiftOf c r) r) (empty-sound (shiftOf nought nought) nought)
 
 -- ---- the occupied cells are those last accepted
 word-append : (b h : Batch) (k : ℕ) (v : Bool) → lastWord (b ++ h) k v ≡ lastWord h k (lastWord b k v)
@@ -196,12 +200,7 @@ run-cells (o ∷ os) m k =
     run-cells os (step o m) k ∙ ap (lastWord (history os (step o m)) k) (step-cells o m k) ∙ sym (word-append (told o (refusal o m)) (history os (step o m)) k (has k (m .cells)))
 
 pub open-cells : (c r : Float) → opened c r .cells ≡ []
-unfolding opened
-open-cells c r = go (refuseOpen [] c r)
-  where
-    go : (n : ℕ) → unless n (fresh c r) nothing .cells ≡ []
-    go zero = refl
-    go (suc n) = refl
+open-cells c r = opened-is (λ m. m .cells ≡ []) c r (λ e. refl) refl
 
 -- ---- room: what is accepted keeps the limits
 abbrev pub Roomy : Map → Type 0
@@ -225,12 +224,7 @@ next-roomy (radius r) m e =
     same-cells = unfold next rebuilt in refl
 
 pub open-roomy : (c r : Float) → Roomy (opened c r)
-unfolding opened
-open-roomy c r = go (refuseOpen [] c r)
-  where
-    go : (n : ℕ) → Roomy (unless n (fresh c r) nothing)
-    go zero = (zero-le, zero-le)
-    go (suc n) = (zero-le, zero-le)
+open-roomy c r = opened-is Roomy c r (λ e. (zero-le, zero-le)) (zero-le, zero-le)
 
 -- ---- a refused operation changes nothing
 pub refused-step : (o : Op) (m : Map) → refusal o m ≢ 0 → step o m ≡ m
@@ -248,9 +242,4 @@ nothing-refuses (radius r) = refl
 
 -- what a refused opening gives is refused with 1 ever after
 pub refused-opening : (c r : Float) → refuseOpen [] c r ≢ 0 → (o : Op) → refusal o (opened c r) ≡ 1
-unfolding opened
-refused-opening c r h o = go (refuseOpen [] c r) refl
-  where
-    go : (n : ℕ) → refuseOpen [] c r ≡ n → refusal o (unless n (fresh c r) nothing) ≡ 1
-    go zero e = absurd (h e)
-    go (suc n) e = nothing-refuses o
+refused-opening c r h o = opened-is (λ m. refusal o m ≡ 1) c r (λ e. absurd (h e)) (nothing-refuses o)

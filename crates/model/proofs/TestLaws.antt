@@ -18,7 +18,8 @@ use Rattle.model.specs.Plane.{Pt, minus, norm, tiny, cellOf, centre}
 use Rattle.model.specs.Shape.{pointTest, squareTest, inBox, stripOf, inStrip, sweepTest}
 use Rattle.model.specs.Map.{natural, shiftOf, tests}
 use Rattle.model.specs.Refusal.{finite, badRadius}
-use Rattle.model.proofs.MapLaws.{true→T, find-has}
+use Rattle.model.proofs.MapLaws.{true→T}
+use Rattle.model.proofs.FindLaws.{find-has}
 use Rattle.model.proofs.LayerLaws.{Lawful}
 
 point-has : (c : Float) (C : List ℕ) (p : Pt) (b : ℕ) → pointTest c C p .cell ≡ some b → T (has b C)

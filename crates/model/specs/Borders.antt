@@ -15,12 +15,12 @@ use Rattle.model.specs.Plane.{centre}
 use Rattle.model.specs.Segment.{passesNear}
 use Rattle.model.specs.Shape.{Found, pointTest, circleTest, sweepTest}
 use Rattle.model.specs.Layer.{Point, Pair, link}
-use Rattle.model.specs.Map.{Map, batch, radius, fresh}
+use Rattle.model.specs.Map.{Map, Op, batch, fresh}
 use Rattle.model.specs.Refusal.{badSize, badRadius, refusal}
-use Rattle.model.specs.Answers.{visibleFrom, openPairs, neighbours}
+use Rattle.model.specs.Answers.{changedCorners, visibleFrom, openPairs, neighbours}
 use Rattle.model.specs.Blocks.{blockCount}
 use Rattle.model.specs.Listing.{text, summary, listing}
-use Rattle.model.specs.Examples.{c, num, pt, at, fill, after, same, tenAgain}
+use Rattle.model.specs.Examples.{c, num, pt, at, fill, clear, after, pairBlock, flat, same, ten, tenAgain}
 
 -- ---- tests
 -- the segment between two cells' centres, and a cell, of size s
@@ -88,6 +88,37 @@ answers = (
       same (neighbours (after 128 (batch (fill (pos 0) (pos 0) ∷ []) ∷ [])) (at (pos 1) (pos 0)))
           (at (pos 1) (negsuc 0) ∷ at (pos 1) (pos 1) ∷ at (pos 2) (negsuc 0) ∷ at (pos 2) (pos 0) ∷ at (pos 2) (pos 1) ∷ [])
           && same (neighbours (after 128 (batch (fill (pos 0) (pos 0) ∷ []) ∷ [])) (at (pos 0) (pos 0))) [],
+    )
+    ∷ []
+
+-- ---- updates: (0,0) and (6,-6), r = 128, have the points (1,1) of status 8 and (5,-5) of status 4, which see each other; (2,0) gives (1,1) the bit 4, which hides them
+unfoldable pub seen : List Op
+seen = batch (fill (pos 0) (pos 0) ∷ fill (pos 6) (negsuc 5) ∷ []) ∷ []
+
+unfoldable pub hidden : List Op
+hidden = seen ++ (batch (fill (pos 2) (pos 0) ∷ []) ∷ [])
+
+unfoldable pub seenAgain : List Op
+seenAgain = hidden ++ (batch (clear (pos 2) (pos 0) ∷ []) ∷ [])
+
+-- the pair as both ends have it
+unfoldable pub bothEnds : Map → ℕ → ℕ → List ℕ
+bothEnds m p q = pairBlock m p q ∷ pairBlock m q p ∷ []
+
+unfoldable pub updates : List (String × Bool)
+updates =
+    ("a pair is held from both ends", same (bothEnds (after 128 seen) (at (pos 1) (pos 1)) (at (pos 5) (negsuc 4))) (0 ∷ 0 ∷ []))
+    ∷ ("a bit that is set hides a pair", same (bothEnds (after 128 hidden) (at (pos 1) (pos 1)) (at (pos 5) (negsuc 4))) (1 ∷ 1 ∷ []))
+    ∷ ("a bit that is cleared shows it again", same (bothEnds (after 128 seenAgain) (at (pos 1) (pos 1)) (at (pos 5) (negsuc 4))) (0 ∷ 0 ∷ []))
+    ∷ []
+
+unfoldable pub blockers : List (String × Bool)
+blockers =
+    ("an added cell that passes near blocks a stored pair, from both ends", same (bothEnds (after 200 ten) (at (negsuc 1) (pos 2)) (at (pos 2) (pos 2))) (at (negsuc 2) (pos 2) ∷ at (negsuc 2) (pos 2) ∷ []))
+    ∷ ("freeing it repeats the sweep", same (bothEnds (after 200 (ten ++ (batch (clear (negsuc 2) (pos 2) ∷ []) ∷ []))) (at (negsuc 1) (pos 2)) (at (pos 2) (pos 2))) (0 ∷ 0 ∷ []))
+    ∷ (
+      "a corner change at a diagonal neighbour is listed, in the order met",
+      same (flat (changedCorners (fill (pos 1) (pos 1) ∷ []) (after 128 (batch (fill (pos 0) (pos 0) ∷ []) ∷ [])))) (at (pos 0) (pos 0) ∷ 7 ∷ at (pos 1) (pos 1) ∷ 14 ∷ []),
     )
     ∷ []
 
