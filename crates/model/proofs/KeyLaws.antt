@@ -70,7 +70,7 @@ key-lt a b f g t = go (Or (ltZ (a .x) (b .x)) (leZ (a .x) (b .x) && ltZ (a .y) (
         (lt-biased (a .y) (b .y) (f .nearY) (g .nearY) (and-r (leZ (a .x) (b .x)) (ltZ (a .y) (b .y)) u))
 
 -- ---- a key inside the bounds of a question, and no other, is that of its coordinates: whatever the integers x and y are
-abbrev Asked : ℕ
+abbrev pub Asked : ℕ
 Asked = maxCoordinate + beyond
 
 pub key-back : (k : ℕ) → Inside Asked k → key (xOf k) (yOf k) ≡ k

@@ -30,3 +30,6 @@ pub mod Phase2Closed
 pub mod Phase3Closed
 pub mod Phase4Closed
 pub mod ClosedForm
+pub mod ListingLaws
+pub mod AnswerLaws
+pub mod PairLists

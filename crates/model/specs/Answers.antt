@@ -35,12 +35,12 @@ confirmedChanges l m = confirmed (toBatch l) (m .cells)
 unfoldable pub changedCorners : List Entry → Map → List (ℕ × Bits)
 changedCorners l m = cornerChanges (m .cells) (cellsAfter (toBatch l) (m .cells)) (confirmed (toBatch l) (m .cells))
 
-abbrev pub some? : Batch → Bool
-some? [] = false
-some? (e ∷ b) = true
+abbrev pub nonEmpty : Batch → Bool
+nonEmpty [] = false
+nonEmpty (e ∷ b) = true
 
 unfoldable pub anyChange : List Entry → Map → Bool
-anyChange l m = some? (confirmedChanges l m)
+anyChange l m = nonEmpty (confirmedChanges l m)
 
 -- ---- points and pairs
 abbrev pub free : Option ℕ → Bool

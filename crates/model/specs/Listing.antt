@@ -21,13 +21,13 @@ unfoldable pub text : String → List ℕ
 text []ˢ = []
 text (c ∷ˢ s) = code c ∷ text s
 
--- in decimal, without leading zeros: n below 10 ^ 20
+-- in decimal, without leading zeros: the last digit of n, before it those of n / 10; f turns, of which n + 1 are enough
 unfoldable pub digits : ℕ → ℕ → List ℕ → List ℕ
 digits zero n l = l
 digits (suc f) n l = let d = (48 + n % 10) ∷ l in let r = digits f (n / 10) d in cond (ltb n 10) d r
 
 abbrev pub decimal : ℕ → List ℕ
-decimal n = digits 20 n []
+decimal n = digits (suc n) n []
 
 abbrev pub signed : ℤ → List ℕ
 signed (pos n) = decimal n

@@ -99,10 +99,9 @@ unfoldable pub refuseOpen : List (ℕ × ℕ) → Float → Float → ℕ
 refuseOpen lent c r =
     verdict (record { short = short lent; size = badSize c; radius = badRadius c r; long = false; disorder = false; outside = false; cells = false; points = false; query = false })
 
--- a call that leaves the map as it is and names a cell, at most `most` from the origin on each axis, or a question
-unfoldable pub refuseCell : List (ℕ × ℕ) → Map → ℤ → ℤ → ℕ
-refuseCell lent m x y =
-    let most = maxCoordinate + beyond in
+-- a call that leaves the map as it is: whether a coordinate is outside, whether a query number is bad
+unfoldable pub refuseAsking : List (ℕ × ℕ) → Map → Bool → Bool → ℕ
+refuseAsking lent m off bad =
     verdict
     (record {
       short = short lent;
@@ -110,42 +109,23 @@ refuseCell lent m x y =
       radius = badRadius (m .size) (m .layer .radius);
       long = false;
       disorder = false;
-      outside = offMap most x || offMap most y;
+      outside = off;
       cells = crowded m;
       points = packed m;
-      query = false;
-    })
-
-unfoldable pub refuseQuestion : List (ℕ × ℕ) → Map → Question → ℕ
-refuseQuestion lent m q =
-    verdict
-    (record {
-      short = short lent;
-      size = badSize (m .size);
-      radius = badRadius (m .size) (m .layer .radius);
-      long = false;
-      disorder = false;
-      outside = false;
-      cells = crowded m;
-      points = packed m;
-      query = badQuestion q;
+      query = bad;
     })
 
 -- a list, or whether one cell is occupied
-unfoldable pub refuseList : List (ℕ × ℕ) → Map → ℕ
-refuseList lent m =
-    verdict
-    (record {
-      short = short lent;
-      size = badSize (m .size);
-      radius = badRadius (m .size) (m .layer .radius);
-      long = false;
-      disorder = false;
-      outside = false;
-      cells = crowded m;
-      points = packed m;
-      query = false;
-    })
+abbrev pub refuseList : List (ℕ × ℕ) → Map → ℕ
+refuseList lent m = refuseAsking lent m false false
+
+-- visibility from a cell, or its neighbours
+abbrev pub refuseCell : List (ℕ × ℕ) → Map → ℤ → ℤ → ℕ
+refuseCell lent m x y = refuseAsking lent m (offMap (maxCoordinate + beyond) x || offMap (maxCoordinate + beyond) y) false
+
+-- a question of four shapes
+abbrev pub refuseQuestion : List (ℕ × ℕ) → Map → Question → ℕ
+refuseQuestion lent m q = refuseAsking lent m false (badQuestion q)
 
 -- an operation that would leave m′
 unfoldable pub judge : List (ℕ × ℕ) → Op → Map → Map → ℕ
