@@ -8,7 +8,7 @@ use lib.Dec.{T}
 use lib.IntN.{ℤ}
 use lib.Ieee.{Float}
 use Rattle.model.specs.Maps.{has}
-use Rattle.model.specs.Limits.{maxCoordinate, beyond}
+use Rattle.model.specs.Limits.{maxCoordinate}
 use Rattle.model.specs.Cell.{xOf, yOf, key}
 use Rattle.model.specs.Good.{Inside}
 use Rattle.model.specs.Map.{Map, Op}

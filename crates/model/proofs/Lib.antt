@@ -33,3 +33,4 @@ pub mod ClosedForm
 pub mod ListingLaws
 pub mod AnswerLaws
 pub mod PairLists
+pub mod QuestionLaws

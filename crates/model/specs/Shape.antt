@@ -1,8 +1,10 @@
 -- The four tests, step for step as in sparse_grid.rs: each answers the first occupied cell, by x, then y, that qualifies. c is the cell size, C the occupied cells, ascending. Definitions only.
-use Prim.Native.Nat.{ℕ}
+use mathlib.Core.Path.{_≡_}
+use Prim.Native.Nat.{ℕ, _<_}
 use mathlib.Core.Bool.{Bool, false, not, cond, _&&_, _||_}
 use mathlib.Core.List.{List, [], _∷_, _++_}
 use mathlib.Core.Option.{Option, none, some}
+use lib.Dec.{T, eqb}
 use lib.IntN.{ℤ, pos, _+ℤ_}
 use lib.Signed.{leZ, ltZ}
 use lib.Ieee.{Float, binary64, add, sub, mul, div, lt, le, ofInt}
@@ -157,3 +159,17 @@ ask c C (point p) = pointTest c C p
 ask c C (square p w) = squareTest c C p w
 ask c C (circle p r) = circleTest c C p r
 ask c C (sweep p q w) = sweepTest c C p q w
+
+-- ---- what it means that a cell qualifies: each test answers the first occupied cell that does (proofs/QuestionLaws.antt)
+unfoldable pub qualifies : Float → Question → ℕ → Bool
+qualifies c (point p) k = eqb k (cellOf c p)
+qualifies c (square p w) k = inBox c p (div binary64 w (pow2 1)) k
+qualifies c (circle p r) k = inCircle c p r k
+qualifies c (sweep p q w) k = cond (lt (norm (minus q p)) tiny) (eqb k (cellOf c p)) (inStrip c (stripOf p q (div binary64 w (pow2 1))) k)
+
+-- o is the first of the cells C that passes; none exactly if none does
+pub record First (C : List ℕ) (passes : ℕ → Bool) (o : Option ℕ) : Type 0 where
+  pub member : (k : ℕ) → o ≡ some k → T (has k C)
+  pub passing : (k : ℕ) → o ≡ some k → T (passes k)
+  pub first : (k : ℕ) → o ≡ some k → (j : ℕ) → T (has j C) → j < k → T (passes j) → ⊥
+  pub nowhere : o ≡ none → (j : ℕ) → T (has j C) → T (passes j) → ⊥
