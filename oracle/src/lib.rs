@@ -1,5 +1,8 @@
 //! What the proved code is compared with, and what the comparisons share.
 
+pub mod occupancy;
+pub mod stand_ins;
+
 /// Marsaglia's xorshift with the shifts 13, 7 and 17: the same numbers on every run.
 pub struct Random(u64);
 

@@ -34,7 +34,7 @@ Remembered =
     × (p q : ℕ) × (edge p q (after 200 a .layer .edges) ≡ some (some (at (negsuc 2) (pos 2)))) × (edge p q (after 200 b .layer .edges) ≡ some none)
 
 -- what is to be computed, said once: whoever unfolds this unfolds all of it
-unfoldable everything : Unit {0}
+unfoldable pub everything : Unit {0}
 unfolding near bits joins borders answers counts sixPoints seen hidden seenAgain bothEnds updates blockers head heads gives files fromPoint fromElsewhere freePoints visibleFrom neighbours table num pt at after pointStatus flat cover lies twoCells oneFreed add sub mul div lt le eq neg ofInt ofBits absF minF maxF rootF floorZ ceilZ centreF shiftF get put del mapV keys sift has insert cut find key within number sameBits corner statusOf quadrant sees cornersAmong cellsAfter confirmed met altered cornerChanges plus minus times over dot norm turned tiny bound root2 cellOf centre lowCorner verticalAt horizontalAt distance nearCorners between meets passesNear pointTest lowEnd highEnd inBox squareTest stripOf leftmost rightmost endsIn sidesAt search rowIn inColumn inStrip sweepTest line edge tie untie link hide erase marks raise lower mark markAll phase2 wanted connect phase3 edgeRun settleRow settleAll phase4 update toBatch shiftOf tests changed rebuilt next firstOf verdict short badSize badRadius unsorted outside refuseOpen judge refusal step run opened changedCorners others pointBlock pairBlock circle? ten tenAgain setRadius pointInside lineInside inCircle circleTest listing workedFile workedListing text digits cellText pointLines pairLines summary refusedLine bigEndian entries badFlag takeSize takeRadius takeBatch sized oneField readOn readFile adjacent touches union joinCell blocksOf blockCount corners points allPairs isOpen openPairs pairsFrom pairs refusals
 everything = tt
 
