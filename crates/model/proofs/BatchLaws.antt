@@ -79,6 +79,20 @@ cells-kept (e ∷ b) C x = go (Bool·beq (has (e .0) C) (e .1)) refl (ℕ-discre
     go false q (no h) (inl t) = inl (or-right (eqb x (e .0)) (has x (keys (confirmed b D))) t)
     go false q (no h) (inr p) = inr (p ∙ write-other x (e .0) (e .1) C h)
 
+-- the confirmed changes alone tell what is occupied afterwards
+pub confirmed-last : (b : Batch) (C : List ℕ) (x : ℕ) → has x (cellsAfter b C) ≡ lastWord (confirmed b C) x (has x C)
+unfolding cellsAfter confirmed lastWord keys has
+confirmed-last [] C x = refl
+confirmed-last (e ∷ b) C x = confirmed-last b D x ∙ go (Bool·beq (has (e .0) C) (e .1)) (cells-kept (e ∷ []) C x)
+  where
+    D : List ℕ
+    D = write (e .0) (e .1) C
+
+    go : (s : Bool) → T (has x (keys (cond s [] (e ∷ [])))) ⊎ (has x D ≡ has x C) → lastWord (confirmed b D) x (has x D) ≡ lastWord (cond s (confirmed b D) (e ∷ confirmed b D)) x (has x C)
+    go true (inl u) = absurd u
+    go true (inr q) = ap (lastWord (confirmed b D) x) q
+    go false q = ap (lastWord (confirmed b D) x) (cells-last (e ∷ []) C x)
+
 pub confirmed-keys : (b : Batch) (C : List ℕ) (x : ℕ) → T (has x (keys (confirmed b C))) → T (has x (keys b))
 unfolding confirmed keys has
 confirmed-keys [] C x u = u

@@ -1,239 +1,215 @@
 -- Laws of the pairs: what `edge` reads after each change of the nested map. Assumes nothing.
 use Prim.Native.Nat.{ℕ}
 use native.Mathlib.Decide.{ℕ-discrete}
-use mathlib.Core.Path.{_≡_, refl, ap, _∙_}
-use mathlib.Core.Logic.{_≢_, _⊎_, inl, inr}
-use mathlib.Core.Bool.{Bool, true, false, cond}
+use mathlib.Core.Path.{_≡_, refl, sym, ap, _∙_}
+use mathlib.Core.Logic.{_≢_, _⊎_, inl, inr, ⊎-elim}
+use mathlib.Core.Bool.{Bool, true, false, not, cond, _||_, _&&_, and-comm, or-comm, and-false, true≢false}
 use mathlib.Core.List.{List, [], _∷_}
-use mathlib.Core.Option.{Option, none, some}
-use lib.Dec.{T, eqb, eqb→eq}
+use mathlib.Core.Option.{Option, none, some, Option·map, Option·none-ne-some}
+use lib.Dec.{T, eqb, not-T, eqb→eq}
+use lib.Ieee.Fits.{and-i, and-l, and-r}
 use Rattle.model.specs.Maps.{get, put, del, keys, isSome, has}
 use Rattle.model.specs.Corner.{Bits, sees}
 use Rattle.model.specs.Layer.{Edges, line, edge, tie, untie, link, hide, erase}
-use Rattle.model.proofs.MapLaws.{get-put-same, get-put-other, get-del-same, get-del-other, keys-has, Or}
+use Rattle.model.proofs.MapLaws.{notT→false, decT, eqb-yes, eqb-no, Or, or-left, or-right, get-put-same, get-put-other, get-del-same, get-del-other, keys-has}
 
--- ---- one row
-line-put-same : (p : ℕ) (r : List (ℕ × Option ℕ)) (e : Edges) → line p (put p r e) ≡ r
-unfolding line
-line-put-same p r e = rw (get-put-same p r e, line) refl
+-- ---- choices, and options
+pub cond-ap : {A B : Type 0} (f : A → B) (s : Bool) (x y : A) → f (cond s x y) ≡ cond s (f x) (f y)
+cond-ap f true x y = refl
+cond-ap f false x y = refl
 
-line-put-other : (a p : ℕ) (r : List (ℕ × Option ℕ)) (e : Edges) → a ≢ p → line a (put p r e) ≡ line a e
-unfolding line
-line-put-other a p r e h = rw (get-put-other a p r e h, line) refl
+pub some-cond : {A : Type 0} (s : Bool) (x : A) → isSome (cond s (some x) none) ≡ s
+some-cond true x = refl
+some-cond false x = refl
 
-line-del-same : (p : ℕ) (e : Edges) → line p (del p e) ≡ []
-unfolding line
-line-del-same p e = rw (get-del-same p e, line) refl
+pub map-some : {A : Type 0} (f : A → A) (o : Option A) → isSome (Option·map f o) ≡ isSome o
+map-some f none = refl
+map-some f (some a) = refl
 
-line-del-other : (a p : ℕ) (e : Edges) → a ≢ p → line a (del p e) ≡ line a e
-unfolding line
-line-del-other a p e h = rw (get-del-other a p e h, line) refl
+no-some : {A : Type 0} (o : Option A) → (T (isSome o) → ⊥) → o ≡ none
+no-some none f = refl
+no-some (some a) f = absurd (f tt)
 
--- ---- one end
-pub tie-same : (p q : ℕ) (v : Option ℕ) (e : Edges) → edge p q (tie p q v e) ≡ some v
-unfolding edge tie
-tie-same p q v e = ap (get q) (line-put-same p (put q v (line p e)) e) ∙ get-put-same q v (line p e)
+-- what is there only under s
+pub only : {A : Type 0} (s : Bool) (o : Option A) → (T (isSome o) → T s) → o ≡ cond s o none
+only true o f = refl
+only false o f = no-some o f
 
-pub tie-row : (a b p q : ℕ) (v : Option ℕ) (e : Edges) → a ≢ p → edge a b (tie p q v e) ≡ edge a b e
-unfolding edge tie
-tie-row a b p q v e h = ap (get b) (line-put-other a p (put q v (line p e)) e h)
+-- what is there under s is there
+pub under : {A : Type 0} (s : Bool) (o : Option A) (v : A) → cond s o none ≡ some v → T s × (o ≡ some v)
+under true o v e = (tt, e)
+under false o v e = absurd (Option·none-ne-some v e)
 
-tie-at : (b p q : ℕ) (v : Option ℕ) (e : Edges) → b ≢ q → edge p b (tie p q v e) ≡ edge p b e
-unfolding edge tie
-tie-at b p q v e h = ap (get b) (line-put-same p (put q v (line p e)) e) ∙ get-put-other b q v (line p e) h
-
-pub tie-col : (a b p q : ℕ) (v : Option ℕ) (e : Edges) → b ≢ q → edge a b (tie p q v e) ≡ edge a b e
-tie-col a b p q v e h = go (ℕ-discrete a p)
+pub by-eqb : {A : Type 0} (j k : ℕ) (x y z : A) → (j ≡ k → x ≡ y) → (j ≢ k → x ≡ z) → x ≡ cond (eqb j k) y z
+by-eqb j k x y z f g = go (ℕ-discrete j k)
   where
-    go : Dec (a ≡ p) → edge a b (tie p q v e) ≡ edge a b e
-    go (yes x) = rw x (tie-at b p q v e h)
-    go (no x) = tie-row a b p q v e x
+    go : Dec (j ≡ k) → x ≡ cond (eqb j k) y z
+    go (yes e) = rw (e, eqb-yes k) (f e)
+    go (no h) = rw (eqb-no j k h) (g h)
 
-pub untie-same : (p q : ℕ) (e : Edges) → edge p q (untie p q e) ≡ none
-unfolding edge untie
-untie-same p q e = ap (get q) (line-put-same p (del q (line p e)) e) ∙ get-del-same q (line p e)
+get-put : {A : Type 0} (j k : ℕ) (v : A) (m : List (ℕ × A)) → get j (put k v m) ≡ cond (eqb j k) (some v) (get j m)
+get-put j k v m = by-eqb j k (get j (put k v m)) (some v) (get j m) (λ e. rw e (get-put-same k v m)) (get-put-other j k v m)
 
-pub untie-row : (a b p q : ℕ) (e : Edges) → a ≢ p → edge a b (untie p q e) ≡ edge a b e
-unfolding edge untie
-untie-row a b p q e h = ap (get b) (line-put-other a p (del q (line p e)) e h)
+get-del : {A : Type 0} (j k : ℕ) (m : List (ℕ × A)) → get j (del k m) ≡ cond (eqb j k) none (get j m)
+get-del j k m = by-eqb j k (get j (del k m)) none (get j m) (λ e. rw e (get-del-same k m)) (get-del-other j k m)
 
-untie-at : (b p q : ℕ) (e : Edges) → b ≢ q → edge p b (untie p q e) ≡ edge p b e
-unfolding edge untie
-untie-at b p q e h = ap (get b) (line-put-same p (del q (line p e)) e) ∙ get-del-other b q (line p e) h
+pub eqb-is : (m n : ℕ) → m ≡ n → eqb m n ≡ true
+eqb-is m n e = rw e (eqb-yes n)
 
-pub untie-col : (a b p q : ℕ) (e : Edges) → b ≢ q → edge a b (untie p q e) ≡ edge a b e
-untie-col a b p q e h = go (ℕ-discrete a p)
+-- ---- one row, and one end
+line-put : (p : ℕ) (r : List (ℕ × Option ℕ)) (e : Edges) → line p (put p r e) ≡ r
+unfolding line
+line-put p r e = rw (get-put-same p r e, line) refl
+
+edge-put : (a b p : ℕ) (r : List (ℕ × Option ℕ)) (e : Edges) → edge a b (put p r e) ≡ cond (eqb a p) (get b r) (edge a b e)
+unfolding edge line
+edge-put a b p r e =
+    by-eqb a p (edge a b (put p r e)) (get b r) (edge a b e) (λ h. rw h (ap (get b) (line-put p r e))) (λ h. rw (get-put-other a p r e h, line) refl)
+
+edge-del : (a b p : ℕ) (e : Edges) → edge a b (del p e) ≡ cond (eqb a p) none (edge a b e)
+unfolding edge line get
+edge-del a b p e =
+    by-eqb a p (edge a b (del p e)) none (edge a b e) (λ h. rw (h, get-del-same p e, line) refl) (λ h. rw (get-del-other a p e h, line) refl)
+
+-- the row r, which is p's but for x at q, put at p
+row-at : (a b p q : ℕ) (x : Option (Option ℕ)) (r : List (ℕ × Option ℕ)) (e : Edges) → get b r ≡ cond (eqb b q) x (edge p b e)
+    → edge a b (put p r e) ≡ cond (eqb a p && eqb b q) x (edge a b e)
+row-at a b p q x r e h = edge-put a b p r e ∙ go (ℕ-discrete a p)
   where
-    go : Dec (a ≡ p) → edge a b (untie p q e) ≡ edge a b e
-    go (yes x) = rw x (untie-at b p q e h)
-    go (no x) = untie-row a b p q e x
+    go : Dec (a ≡ p) → cond (eqb a p) (get b r) (edge a b e) ≡ cond (eqb a p && eqb b q) x (edge a b e)
+    go (yes y) = rw (y, eqb-yes p) h
+    go (no y) = rw (eqb-no a p y) refl
 
--- what is not there stays away
-pub untie-none : (a b p q : ℕ) (e : Edges) → edge a b e ≡ none → edge a b (untie p q e) ≡ none
-untie-none a b p q e n = go (ℕ-discrete a p) (ℕ-discrete b q)
-  where
-    go : Dec (a ≡ p) → Dec (b ≡ q) → edge a b (untie p q e) ≡ none
-    go (yes x) (yes y) = rw (x, y) (untie-same p q e)
-    go (yes x) (no y) = untie-col a b p q e y ∙ n
-    go (no x) d = untie-row a b p q e x ∙ n
+tie-at : (a b p q : ℕ) (v : Option ℕ) (e : Edges) → edge a b (tie p q v e) ≡ cond (eqb a p && eqb b q) (some v) (edge a b e)
+unfolding edge tie
+tie-at a b p q v e = row-at a b p q (some v) (put q v (line p e)) e (get-put b q v (line p e))
 
-pub del-same : (k b : ℕ) (e : Edges) → edge k b (del k e) ≡ none
-unfolding edge get
-del-same k b e = ap (get b) (line-del-same k e)
-
-pub del-other : (a b k : ℕ) (e : Edges) → a ≢ k → edge a b (del k e) ≡ edge a b e
-unfolding edge
-del-other a b k e h = ap (get b) (line-del-other a k e h)
+untie-at : (a b p q : ℕ) (e : Edges) → edge a b (untie p q e) ≡ cond (eqb a p && eqb b q) none (edge a b e)
+unfolding edge untie
+untie-at a b p q e = row-at a b p q none (del q (line p e)) e (get-del b q (line p e))
 
 -- ---- both ends
--- where (a, b) stands to the pair of p and q
-pub data At (a b p q : ℕ) : Type 0 where
-  fore : a ≡ p → b ≡ q → At a b p q
-  back : a ≡ q → b ≡ p → At a b p q
-  off : (a ≢ p) ⊎ (b ≢ q) → (a ≢ q) ⊎ (b ≢ p) → At a b p q
-
-pub place : (a b p q : ℕ) → At a b p q
-place a b p q = go (ℕ-discrete a p) (ℕ-discrete b q) (ℕ-discrete a q) (ℕ-discrete b p)
-  where
-    go : Dec (a ≡ p) → Dec (b ≡ q) → Dec (a ≡ q) → Dec (b ≡ p) → At a b p q
-    go (yes x) (yes y) u v = fore x y
-    go (yes x) (no y) (yes u) (yes v) = back u v
-    go (yes x) (no y) (yes u) (no v) = off (inr y) (inr v)
-    go (yes x) (no y) (no u) v = off (inr y) (inl u)
-    go (no x) y (yes u) (yes v) = back u v
-    go (no x) y (yes u) (no v) = off (inl x) (inr v)
-    go (no x) y (no u) v = off (inl x) (inl u)
-
-tie-off : (a b p q : ℕ) (v : Option ℕ) (e : Edges) → (a ≢ p) ⊎ (b ≢ q) → edge a b (tie p q v e) ≡ edge a b e
-tie-off a b p q v e (inl h) = tie-row a b p q v e h
-tie-off a b p q v e (inr h) = tie-col a b p q v e h
-
-pub untie-off : (a b p q : ℕ) (e : Edges) → (a ≢ p) ⊎ (b ≢ q) → edge a b (untie p q e) ≡ edge a b e
-untie-off a b p q e (inl h) = untie-row a b p q e h
-untie-off a b p q e (inr h) = untie-col a b p q e h
-
-pub link-off : (a b p q : ℕ) (v : Option ℕ) (e : Edges) → (a ≢ p) ⊎ (b ≢ q) → (a ≢ q) ⊎ (b ≢ p) → edge a b (link p q v e) ≡ edge a b e
-unfolding link
-link-off a b p q v e h g = tie-off a b q p v (tie p q v e) g ∙ tie-off a b p q v e h
-
-pub link-back : (p q : ℕ) (v : Option ℕ) (e : Edges) → edge q p (link p q v e) ≡ some v
-unfolding link
-link-back p q v e = tie-same q p v (tie p q v e)
-
-link-apart : (p q : ℕ) (v : Option ℕ) (e : Edges) → p ≢ q → edge p q (link p q v e) ≡ some v
-unfolding link
-link-apart p q v e h = tie-row p q q p v (tie p q v e) h ∙ tie-same p q v e
-
-pub link-fore : (p q : ℕ) (v : Option ℕ) (e : Edges) → edge p q (link p q v e) ≡ some v
-link-fore p q v e = go (ℕ-discrete p q)
-  where
-    go : Dec (p ≡ q) → edge p q (link p q v e) ≡ some v
-    go (yes x) = rw x (link-back q q v e)
-    go (no x) = link-apart p q v e x
-
--- ---- `hide`: a bit was set at k, whose status is now b
-pub hide-none : (a c k : ℕ) (b : Bits) (os : List ℕ) (e : Edges) → edge a c e ≡ none → edge a c (hide k b os e) ≡ none
-unfolding hide
-hide-none a c k b [] e n = n
-hide-none a c k b (o ∷ os) e n = hide-none a c k b os (cond (sees o k b) e (untie o k (untie k o e))) (go (sees o k b))
-  where
-    go : (s : Bool) → edge a c (cond s e (untie o k (untie k o e))) ≡ none
-    go true = n
-    go false = untie-none a c o k (untie k o e) (untie-none a c k o e n)
-
-pub hide-keep : (a c k : ℕ) (b : Bits) (os : List ℕ) (e : Edges) → (a ≡ k → T (sees c k b)) → (c ≡ k → T (sees a k b)) → edge a c (hide k b os e) ≡ edge a c e
-unfolding hide
-hide-keep a c k b [] e f g = refl
-hide-keep a c k b (o ∷ os) e f g = hide-keep a c k b os (cond (sees o k b) e (untie o k (untie k o e))) f g ∙ go (sees o k b) refl (place a c k o)
-  where
-    no-way : (z : ℕ) → z ≡ o → T (sees z k b) → sees o k b ≡ false → ⊥
-    no-way z x t q = let h : T (sees o k b) = rw x at t in let h′ : T false = rw q at h in h′
-
-    go : (s : Bool) → sees o k b ≡ s → At a c k o → edge a c (cond s e (untie o k (untie k o e))) ≡ edge a c e
-    go true q w = refl
-    go false q (fore x y) = absurd (no-way c y (f x) q)
-    go false q (back x y) = absurd (no-way a x (g y) q)
-    go false q (off x y) = untie-off a c o k (untie k o e) y ∙ untie-off a c k o e x
-
--- both ways of a pair that is no longer seen are gone
-pub record Gone (k c : ℕ) (e : Edges) : Type 0 where
-  pub there : edge k c e ≡ none
-  pub back : edge c k e ≡ none
-
-pub hide-gone : (c k : ℕ) (b : Bits) (os : List ℕ) (e : Edges) → (T (sees c k b) → ⊥) → T (has c os) → Gone k c (hide k b os e)
-unfolding hide has
-hide-gone c k b [] e n h = absurd h
-hide-gone c k b (o ∷ os) e n h = go (ℕ-discrete c o) (Or (eqb c o) (has c os) h) (hide-gone c k b os (cond (sees o k b) e (untie o k (untie k o e))) n)
-  where
-    out : (s : Bool) → (T s → ⊥) → Gone k o (cond s e (untie o k (untie k o e)))
-    out true m = absurd (m tt)
-    out false m = record { there = untie-none k o o k (untie k o e) (untie-same k o e); back = untie-same o k (untie k o e) }
-
-    here : c ≡ o → Gone k c (cond (sees o k b) e (untie o k (untie k o e)))
-    here x = rw x (out (sees o k b) (rw x at n))
-
-    stays : Gone k c (cond (sees o k b) e (untie o k (untie k o e))) → Gone k c (hide k b os (cond (sees o k b) e (untie o k (untie k o e))))
-    stays g = record {
-      there = hide-none k c k b os (cond (sees o k b) e (untie o k (untie k o e))) (g .there);
-      back = hide-none c k k b os (cond (sees o k b) e (untie o k (untie k o e))) (g .back);
-    }
-
-    go : Dec (c ≡ o) → T (eqb c o) ⊎ T (has c os) → (T (has c os) → Gone k c (hide k b os (cond (sees o k b) e (untie o k (untie k o e)))))
-        → Gone k c (hide k b os (cond (sees o k b) e (untie o k (untie k o e))))
-    go (yes x) d ih = stays (here x)
-    go (no x) (inl t) ih = absurd (x (eqb→eq c o t))
-    go (no x) (inr t) ih = ih t
-
--- ---- `erase`: the point k goes
-pub erase-none : (a c k : ℕ) (os : List ℕ) (e : Edges) → edge a c e ≡ none → edge a c (erase k os e) ≡ none
-unfolding erase
-erase-none a c k [] e n = n
-erase-none a c k (o ∷ os) e n = erase-none a c k os (untie o k e) (untie-none a c o k e n)
-
-pub erase-col : (a c k : ℕ) (os : List ℕ) (e : Edges) → c ≢ k → edge a c (erase k os e) ≡ edge a c e
-unfolding erase
-erase-col a c k [] e h = refl
-erase-col a c k (o ∷ os) e h = erase-col a c k os (untie o k e) h ∙ untie-col a c o k e h
-
-pub erase-gone : (a k : ℕ) (os : List ℕ) (e : Edges) → T (has a os) → edge a k (erase k os e) ≡ none
-unfolding erase has
-erase-gone a k [] e h = absurd h
-erase-gone a k (o ∷ os) e h = go (ℕ-discrete a o) (Or (eqb a o) (has a os) h) (erase-gone a k os (untie o k e))
-  where
-    go : Dec (a ≡ o) → T (eqb a o) ⊎ T (has a os) → (T (has a os) → edge a k (erase k os (untie o k e)) ≡ none) → edge a k (erase k os (untie o k e)) ≡ none
-    go (yes x) d ih = erase-none a k k os (untie o k e) (rw x (untie-same o k e))
-    go (no x) (inl t) ih = absurd (x (eqb→eq a o t))
-    go (no x) (inr t) ih = ih t
-
--- ---- the two as phase 1 calls them, on a symmetric map
 abbrev pub Twins : Edges → Type 0
 Twins e = (a b : ℕ) → edge a b e ≡ edge b a e
 
-pub row-has : (a k : ℕ) (e : Edges) → has a (keys (line k e)) ≡ isSome (edge k a e)
+-- (a, b) is the pair of p and q, either way round
+abbrev pub hits : ℕ → ℕ → ℕ → ℕ → Bool
+hits a b p q = (eqb a p && eqb b q) || (eqb a q && eqb b p)
+
+cond-or : {A : Type 0} (x y : Bool) (u z : A) → cond y u (cond x u z) ≡ cond (x || y) u z
+cond-or true true u z = refl
+cond-or true false u z = refl
+cond-or false y u z = refl
+
+pub link-at : (a b p q : ℕ) (v : Option ℕ) (e : Edges) → edge a b (link p q v e) ≡ cond (hits a b p q) (some v) (edge a b e)
+unfolding link
+link-at a b p q v e =
+    tie-at a b q p v (tie p q v e) ∙ ap (cond (eqb a q && eqb b p) (some v)) (tie-at a b p q v e) ∙ cond-or (eqb a p && eqb b q) (eqb a q && eqb b p) (some v) (edge a b e)
+
+unlink-at : (a b p q : ℕ) (e : Edges) → edge a b (untie q p (untie p q e)) ≡ cond (hits a b p q) none (edge a b e)
+unlink-at a b p q e =
+    untie-at a b q p (untie p q e) ∙ ap (cond (eqb a q && eqb b p) none) (untie-at a b p q e) ∙ cond-or (eqb a p && eqb b q) (eqb a q && eqb b p) none (edge a b e)
+
+pub hits-fore : (p q : ℕ) → T (hits p q p q)
+hits-fore p q = rw (eqb-yes p, eqb-yes q) tt
+
+pub hits-turn : (a b p q : ℕ) → hits a b p q ≡ hits b a p q
+hits-turn a b p q = rw (and-comm (eqb a p) (eqb b q), and-comm (eqb a q) (eqb b p)) (or-comm (eqb b q && eqb a p) (eqb b p && eqb a q))
+
+pub hits-back : (p q : ℕ) → T (hits q p p q)
+hits-back p q = rw (hits-turn q p p q) (hits-fore p q)
+
+pub hits-either : (a b p q : ℕ) → T (hits a b p q) → ((a ≡ p) × (b ≡ q)) ⊎ ((a ≡ q) × (b ≡ p))
+hits-either a b p q t = ⊎-elim (λ s. inl (both a p b q s)) (λ s. inr (both a q b p s)) (Or (eqb a p && eqb b q) (eqb a q && eqb b p) t)
+  where
+    both : (x y u v : ℕ) → T (eqb x y && eqb u v) → (x ≡ y) × (u ≡ v)
+    both x y u v s = (eqb→eq x y (and-l (eqb x y) (eqb u v) s), eqb→eq u v (and-r (eqb x y) (eqb u v) s))
+
+pub hits-edge : (a b p q : ℕ) (e : Edges) → Twins e → T (hits a b p q) → edge a b e ≡ edge p q e
+hits-edge a b p q e tw t = ⊎-elim (λ h. rw (h .0, h .1) refl) (λ h. rw (h .0, h .1) (tw q p)) (hits-either a b p q t)
+
+pub twins-link : (p q : ℕ) (v : Option ℕ) (e : Edges) → Twins e → Twins (link p q v e)
+twins-link p q v e tw a b = link-at a b p q v e ∙ rw (hits-turn a b p q, tw a b) (sym (link-at b a p q v e))
+
+-- ---- `hide`: a bit was set at k, whose status is now b
+module _ (a c k : ℕ) (b : Bits) where
+  unfoldable hid : List ℕ → Bool
+  hid [] = false
+  hid (o ∷ os) = (not (sees o k b) && hits a c k o) || hid os
+
+  hide-at : (os : List ℕ) (e : Edges) → edge a c (hide k b os e) ≡ cond (hid os) none (edge a c e)
+  unfolding hide hid
+  hide-at [] e = refl
+  hide-at (o ∷ os) e =
+      hide-at os (cond (sees o k b) e (untie o k (untie k o e))) ∙ ap (cond (hid os) none) (go (sees o k b)) ∙ cond-or (not (sees o k b) && hits a c k o) (hid os) none (edge a c e)
+    where
+      go : (s : Bool) → edge a c (cond s e (untie o k (untie k o e))) ≡ cond (not s && hits a c k o) none (edge a c e)
+      go true = refl
+      go false = unlink-at a c k o e
+
+  hid-no : ((x : ℕ) → T (hits a c k x) → T (sees x k b)) → (os : List ℕ) → hid os ≡ false
+  unfolding hid
+  hid-no f [] = refl
+  hid-no f (o ∷ os) = rw (go (sees o k b) refl) (hid-no f os)
+    where
+      go : (s : Bool) → sees o k b ≡ s → not s && hits a c k o ≡ false
+      go true e = refl
+      go false e = notT→false (hits a c k o) (λ u. let x : T false = rw e at (f o u) in x)
+
+  hid-yes : (x : ℕ) → T (hits a c k x) → (T (sees x k b) → ⊥) → (os : List ℕ) → T (has x os) → T (hid os)
+  unfolding hid has
+  hid-yes x h n [] u = u
+  hid-yes x h n (o ∷ os) u =
+      let now = and-i (not (sees x k b)) (hits a c k x) (not-T (sees x k b) n) h in
+      ⊎-elim (λ y. or-left (not (sees o k b) && hits a c k o) (hid os) (rw (eqb→eq x o y) at now))
+      (λ y. or-right (not (sees o k b) && hits a c k o) (hid os) (hid-yes x h n os y)) (Or (eqb x o) (has x os) u)
+
+  -- of the pairs of k those stay whose other end is seen: so a pair stays under s, if s says so of one that is there
+  pub hide-left : (e : Edges) → Twins e → (s : Bool) → (T s → (x : ℕ) → T (hits a c k x) → T (sees x k b))
+      → (T (isSome (edge a c e)) → ((x : ℕ) → T (hits a c k x) → T (sees x k b)) → T s) → edge a c (hide k b (keys (line k e)) e) ≡ cond s (edge a c e) none
+  unfolding edge
+  hide-left e tw s f g = hide-at os e ∙ go s (hid os) refl f g
+    where
+      os : List ℕ
+      os = keys (line k e)
+
+      seen : T (isSome (edge a c e)) → hid os ≡ false → (x : ℕ) → T (hits a c k x) → T (sees x k b)
+      seen u n x h =
+          ⊎-elim (λ y. y) (λ m. absurd (let z : T false = rw n at (hid-yes x h m os (rw (keys-has x (line k e)) (rw (hits-edge a c k x e tw h) at u))) in z)) (decT (sees x k b))
+
+      go : (s r : Bool) → hid os ≡ r → (T s → (x : ℕ) → T (hits a c k x) → T (sees x k b)) → (T (isSome (edge a c e)) → ((x : ℕ) → T (hits a c k x) → T (sees x k b)) → T s)
+          → cond r none (edge a c e) ≡ cond s (edge a c e) none
+      go true true n f g = absurd (true≢false (sym n ∙ hid-no (f tt) os))
+      go true false n f g = refl
+      go false true n f g = refl
+      go false false n f g = no-some (edge a c e) (λ u. g u (seen u n))
+
+-- ---- `erase`: the point k goes
+erase-at : (a c k : ℕ) (os : List ℕ) (e : Edges) → edge a c (erase k os e) ≡ cond (eqb c k && has a os) none (edge a c e)
+unfolding erase has
+erase-at a c k [] e = rw (and-false (eqb c k)) refl
+erase-at a c k (o ∷ os) e = erase-at a c k os (untie o k e) ∙ ap (cond (eqb c k && has a os) none) (untie-at a c o k e) ∙ go (eqb c k) (eqb a o)
+  where
+    go : (s x : Bool) → cond (s && has a os) none (cond (x && s) none (edge a c e)) ≡ cond (s && (x || has a os)) none (edge a c e)
+    go true true = cond-or true (has a os) none (edge a c e)
+    go true false = refl
+    go false true = refl
+    go false false = refl
+
+-- no pair of k stays, and every other
+pub forgot : (a c k : ℕ) (e : Edges) → Twins e → edge a c (erase k (keys (line k e)) (del k e)) ≡ cond (eqb a k || eqb c k) none (edge a c e)
 unfolding edge
-row-has a k e = keys-has a (line k e)
-
-none-or : {A : Type 0} (o : Option A) → (o ≡ none) ⊎ T (isSome o)
-none-or none = inl refl
-none-or (some a) = inr tt
-
-pub hidden : (c k : ℕ) (b : Bits) (e : Edges) → Twins e → (T (sees c k b) → ⊥) → Gone k c (hide k b (keys (line k e)) e)
-hidden c k b e tw n = go (none-or (edge k c e))
+forgot a c k e tw =
+    erase-at a c k (keys (line k e)) (del k e) ∙ ap (cond (eqb c k && has a (keys (line k e))) none) (edge-del a c k e)
+    ∙ go (eqb a k) (eqb c k) (has a (keys (line k e))) (edge a c e) lone
   where
-    go : (edge k c e ≡ none) ⊎ T (isSome (edge k c e)) → Gone k c (hide k b (keys (line k e)) e)
-    go (inl x) = record { there = hide-none k c k b (keys (line k e)) e x; back = hide-none c k k b (keys (line k e)) e (tw c k ∙ x) }
-    go (inr x) = hide-gone c k b (keys (line k e)) e n (rw (row-has c k e) x)
+    lone : T (eqb c k) → (T (has a (keys (line k e))) → ⊥) → edge a c e ≡ none
+    lone u n = no-some (edge a c e) (λ z. n (rw (keys-has a (line k e), tw k a) (rw (eqb→eq c k u) at z)))
 
-pub forgot-off : (a c k : ℕ) (e : Edges) → a ≢ k → c ≢ k → edge a c (erase k (keys (line k e)) (del k e)) ≡ edge a c e
-forgot-off a c k e h g = erase-col a c k (keys (line k e)) (del k e) g ∙ del-other a c k e h
-
-pub forgot-row : (c k : ℕ) (e : Edges) → edge k c (erase k (keys (line k e)) (del k e)) ≡ none
-forgot-row c k e = erase-none k c k (keys (line k e)) (del k e) (del-same k c e)
-
-pub forgot-col : (a k : ℕ) (e : Edges) → Twins e → edge a k (erase k (keys (line k e)) (del k e)) ≡ none
-forgot-col a k e tw = go (none-or (edge k a e)) (ℕ-discrete a k)
-  where
-    go : (edge k a e ≡ none) ⊎ T (isSome (edge k a e)) → Dec (a ≡ k) → edge a k (erase k (keys (line k e)) (del k e)) ≡ none
-    go (inr x) d = erase-gone a k (keys (line k e)) (del k e) (rw (row-has a k e) x)
-    go (inl x) (yes h) = rw h (forgot-row k k e)
-    go (inl x) (no h) = erase-none a k k (keys (line k e)) (del k e) (del-other a k k e h ∙ tw a k ∙ x)
+    go : (x s h : Bool) (z : Option (Option ℕ)) → (T s → (T h → ⊥) → z ≡ none) → cond (s && h) none (cond x none z) ≡ cond (x || s) none z
+    go true true true z f = refl
+    go true true false z f = refl
+    go true false h z f = refl
+    go false true true z f = refl
+    go false true false z f = f tt (λ u. u)
+    go false false h z f = refl

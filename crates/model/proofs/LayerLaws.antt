@@ -1,29 +1,32 @@
 -- Every batch, and every fresh build, leaves a good layer (specs/Good.antt), whatever the float tests answer, as long as they answer occupied cells. Assumes nothing.
 use Prim.Native.Nat.{ℕ, _≤_}
 use mathlib.Core.Path.{_≡_, refl, sym, ap, _∙_, subst}
-use mathlib.Core.Logic.{_⊎_, inl, inr}
-use mathlib.Core.Bool.{false}
-use mathlib.Core.List.{List, [], _∷_}
-use mathlib.Core.Option.{Option, none, some, Option·none-ne-some}
+use mathlib.Core.Logic.{_≢_, _⊎_, inl, inr, ⊎-elim}
+use mathlib.Core.Bool.{Bool, true, false, cond, _&&_, _||_}
+use mathlib.Core.List.{List, []}
+use mathlib.Core.Option.{Option, none, some, Option·map, map-eq-some-iff, Option·none-ne-some, Option·some-injective}
 use lib.Dec.{T}
 use lib.Ieee.{Float}
 use Rattle.model.specs.Maps.{get, keys, isSome, has, Asc, AscL}
 use Rattle.model.specs.Cell.{Dir, SW, SE, NW, NE, opp, move}
-use Rattle.model.specs.Corner.{Bits, zero4, bit, anyBit, sees, statusOf, cornerCells}
+use Rattle.model.specs.Corner.{Bits, bit, anyBit, statusOf, cornerCells}
 use Rattle.model.specs.Batch.{Batch, cellsAfter, confirmed, cornerChanges}
-use Rattle.model.specs.Layer.{Tests, Layer, Point, Points, Edges, Work, edge, line, markAll, marks, phase2, phase3, settleAll, phase4, update}
+use Rattle.model.specs.Layer.{Tests, Layer, Point, Points, Edges, Work, edge, line, markAll, marks, phase2, phase3, phase4, edgeRun, started, update}
 use Rattle.model.specs.Good.{bitsIn, want, Joined, Inside, Good}
+use Rattle.model.specs.ClosedForm.{statusRun, ahead, newBlock, orElse}
 use Rattle.model.specs.Limits.{maxShift, maxCoordinate}
-use Rattle.model.proofs.MapLaws.{T→true, keys-has}
+use Rattle.model.proofs.MapLaws.{T→true, or-left, or-right, keys-has}
 use Rattle.model.proofs.BitLaws.{ext-bits}
 use Rattle.model.proofs.OrderLaws.{asc-within}
 use Rattle.model.proofs.BatchLaws.{freed, Placed, cells-kept, cells-freed, cells-placed, cells-order, confirmed-keys}
 use Rattle.model.proofs.CornerLaws.{inside-safe, Fits, changes-fit, changes-has, corners-fits, corners-has}
-use Rattle.model.proofs.Phase1Pairs.{Inv}
-use Rattle.model.proofs.Phase1Status.{Right, marks-status, marks-right, Held, Kept, kept-marks}
-use Rattle.model.proofs.Phase2.{Due, phase2-bits, phase2-some, phase2-asc, phase2-hold}
-use Rattle.model.proofs.Phase3.{Net, swap, phase3-net, phase3-some, phase3-full}
-use Rattle.model.proofs.Phase4.{phase4-net, phase4-some}
+use Rattle.model.proofs.EdgeLaws.{Twins, some-cond, map-some, under}
+use Rattle.model.proofs.Phase1Status.{Right, marks-right}
+use Rattle.model.proofs.Phase1Points.{Real, marks-status, marks-asc}
+use Rattle.model.proofs.Phase1Pairs.{Open, joined-map, Inv, marks-inv, marks-old}
+use Rattle.model.proofs.Phase2.{phase2-bits, phase2-some, phase2-asc, point-from, Due, point-due, edge-due}
+use Rattle.model.proofs.Phase3.{apart, apart-joined, joined-apart, grow, news, phase3-get, phase3-twins}
+use Rattle.model.proofs.Phase4.{phase4-twins, phase4-get}
 
 -- what the float tests owe: they answer occupied cells, and the shift is at most 64
 pub record Lawful (t : Tests) : Type 0 where
@@ -32,14 +35,7 @@ pub record Lawful (t : Tests) : Type 0 where
   pub small : t .shift ≤ maxShift
 
 pub joined-eq : (B B′ : ℕ → Bits) → ((k : ℕ) → B k ≡ B′ k) → (p q : ℕ) → Joined B p q → Joined B′ p q
-joined-eq B B′ f p q J =
-    record {
-      differ = J .differ;
-      one = subst (λ (z : Bits). T (anyBit z)) (f p) (J .one);
-      other = subst (λ (z : Bits). T (anyBit z)) (f q) (J .other);
-      fore = subst (λ (z : Bits). T (sees p q z)) (f q) (J .fore);
-      back = subst (λ (z : Bits). T (sees q p z)) (f p) (J .back);
-    }
+joined-eq B B′ f p q = joined-map (subst (Open q p) (f p)) (subst (Open p q) (f q))
 
 pub want-bit : (s : ℕ) (C : List ℕ) (k : ℕ) (D : Dir) → bit D (want s C k) ≡ bit D (statusOf C (move s (opp D) k))
 unfolding want
@@ -48,100 +44,133 @@ want-bit s C k SE = refl
 want-bit s C k NW = refl
 want-bit s C k NE = refl
 
-phase4-is : (t : Tests) (C : List ℕ) (ch : Batch) (B : ℕ → Bits) (ps : Points) (e : Edges)
-    → Net (Due C ch) B e → Net (λ b. T (has b C)) B (settleAll t C ch ps e) → Net (λ b. T (has b C)) B (phase4 t C ch ps e)
-unfolding phase4 freed
-phase4-is t C [] B ps e n m = record { twins = n .twins; sound = n .sound; holds = λ p q b r. go b (n .holds p q b r) }
-  where
-    go : (b : ℕ) → T (has b C) ⊎ T (freed b []) → T (has b C)
-    go b (inl u) = u
-    go b (inr u) = absurd u
-phase4-is t C (c ∷ ch) B ps e n m = m
+-- ---- what `update` leaves, whatever the float tests answer
+module _ (t : Tests) (C : List ℕ) (ch : Batch) (cs : List (ℕ × Bits)) (l : Layer) (inv : Inv (started l)) (asc : Asc 0 (l .points)) where
+  -- what phase 1 leaves; the points afterwards; the pairs that phase 3 leaves
+  abbrev w : Work
+  w = markAll t C (marks (t .shift) cs) (started l)
 
-phase4-has : (t : Tests) (C : List ℕ) (ch : Batch) (ps : Points) (e : Edges) (p q : ℕ)
-    → T (isSome (edge p q e)) → T (isSome (edge p q (settleAll t C ch ps e))) → T (isSome (edge p q (phase4 t C ch ps e)))
-unfolding phase4
-phase4-has t C [] ps e p q u v = u
-phase4-has t C (c ∷ ch) ps e p q u v = v
+  abbrev ps : Points
+  ps = phase2 t C ch (w .points)
 
--- ---- what `update` needs, and what it leaves
-module _ (t : Tests) (law : Lawful t) (C : List ℕ) (ordered : AscL 0 C) (inside : (k : ℕ) → T (has k C) → Inside maxCoordinate k) (ch : Batch) (placed : Placed C ch)
-    (cs : List (ℕ × Bits)) (fits : Fits C cs) (l : Layer) where
-  abbrev start : Work
-  start = record { points = l .points; edges = l .edges; queue = [] }
+  abbrev E : Edges
+  E = phase3 t C (w .queue) ps (w .edges)
 
-  pub update-good : Inv start → Held (Due C ch) start → ((D : Dir) (k : ℕ) → Right (t .shift) C D k (bitsIn (l .points) k) ⊎ T (has (move (t .shift) (opp D) k) (keys cs)))
-      → Good (t .shift) C (update t C ch cs l)
-  unfolding update
-  update-good inv held right =
-      record {
-        cellOrder = ordered;
-        pointOrder = order;
-        inside = inside;
-        points = exact;
-        real = real′;
-        pairs = λ p q. (λ u. joined-eq B (want (t .shift) C) exact p q (n4 .sound p q u), λ J. full p q (joined-eq (want (t .shift) C) B (λ k. sym (exact k)) p q J));
-        twins = n4 .twins;
-        edgeBlock = n4 .holds;
-        pointBlock = phase2-hold t C (law .squares C) (law .sweeps C) ch (w .points) placed (k1 .held .inPoints);
-      }
+  inv′ : Inv w
+  inv′ = marks-inv t C (marks (t .shift) cs) (started l) inv
+
+  pub update-status : (k : ℕ) → bitsIn ps k ≡ statusRun (marks (t .shift) cs) k (bitsIn (l .points) k)
+  update-status k = phase2-bits t C ch (w .points) k ∙ marks-status t C (marks (t .shift) cs) (started l) k
+
+  update-asc : Asc 0 ps
+  update-asc = phase2-asc t C ch (w .points) (marks-asc t C (marks (t .shift) cs) (started l) asc)
+
+  update-real : Real ps
+  update-real k = phase2-some t C ch (w .points) k ∙ inv′ .real k ∙ ap anyBit (sym (phase2-bits t C ch (w .points) k))
+
+  -- Phase 3 adds to what phase 1 leaves the new pairs.
+  pub update-grown : (p q : ℕ) → edge p q E ≡ grow (edge p q (w .edges)) (news t C (bitsIn ps) (w .queue) p q)
+  update-grown = phase3-get t C ps update-real (asc-within 0 ps update-asc) (w .queue) (w .edges) (inv′ .twins)
+
+  update-twins : Twins E
+  update-twins = phase3-twins t C ps update-real (asc-within 0 ps update-asc) (w .queue) (w .edges) (inv′ .twins)
+
+  -- Then there is a pair exactly where the ends join: what phase 1 left, or a new one.
+  pub update-pair : (p q : ℕ) → edge p q E ≡ cond (apart (bitsIn ps) p q) (some (orElse (edge p q (w .edges)) (newBlock t C (w .queue) p q))) none
+  update-pair p q = update-grown p q ∙ go (edge p q (w .edges)) refl
     where
-      w : Work
-      w = markAll t C (marks (t .shift) cs) start
-
-      k1 : Kept t C (Due C ch) (λ k b q. inl (law .squares C k b q)) w
-      k1 = kept-marks t C (Due C ch) (λ k b q. inl (law .squares C k b q)) (marks (t .shift) cs) start (record { inv = inv; held = held })
-
-      ps′ : Points
-      ps′ = phase2 t C ch (w .points)
-
       B : ℕ → Bits
-      B = bitsIn ps′
+      B = bitsIn ps
 
-      keeps : (k : ℕ) → B k ≡ bitsIn (w .points) k
-      keeps k = phase2-bits t C (law .squares C) (law .sweeps C) ch (w .points) k
+      here : T (isSome (edge p q (w .edges))) → Joined B p q
+      here u = joined-eq (bitsIn (w .points)) B (λ k. sym (phase2-bits t C ch (w .points) k)) p q (inv′ .sound p q u)
 
-      exact : (k : ℕ) → B k ≡ want (t .shift) C k
-      exact k = keeps k ∙ ext-bits (bitsIn (w .points) k) (want (t .shift) C k) (λ D. ap (bit D) (marks-status t C (marks (t .shift) cs) start k) ∙ marks-right (t .shift) C cs D k (bitsIn (l .points) k) (law .small) fits (right D k) ∙ sym (want-bit (t .shift) C k D))
+      queued : edge p q (w .edges) ≡ none → Joined B p q → T (has p (w .queue) || has q (w .queue))
+      queued e J =
+          ⊎-elim (λ u. absurd (let x : T false = rw e at u in x)) (⊎-elim (or-left (has p (w .queue)) (has q (w .queue))) (or-right (has p (w .queue)) (has q (w .queue))))
+          (inv′ .full p q (joined-eq B (bitsIn (w .points)) (phase2-bits t C ch (w .points)) p q J))
 
-      order : Asc 0 ps′
-      order = phase2-asc t C (law .squares C) (law .sweeps C) ch (w .points) (k1 .held .asc)
+      both : (a h : Bool) → (T a → T h) → a && h ≡ a
+      both true h f = T→true h (f tt)
+      both false h f = refl
 
-      real′ : (k : ℕ) → isSome (get k ps′) ≡ anyBit (B k)
-      real′ k = phase2-some t C (law .squares C) (law .sweeps C) ch (w .points) k ∙ k1 .inv .real k ∙ ap anyBit (sym (keeps k))
+      go : (o : Option (Option ℕ)) → edge p q (w .edges) ≡ o → grow o (news t C B (w .queue) p q) ≡ cond (apart B p q) (some (orElse o (newBlock t C (w .queue) p q))) none
+      go none e = rw (both (apart B p q) (has p (w .queue) || has q (w .queue)) (λ u. queued e (apart-joined B p q u))) refl
+      go (some v) e = rw (T→true (apart B p q) (joined-apart B p q (here (rw e tt)))) refl
 
-      n0 : Net (Due C ch) B (w .edges)
-      n0 = record { twins = k1 .inv .twins; sound = λ p q u. joined-eq (bitsIn (w .points)) B (λ k. sym (keeps k)) p q (k1 .inv .sound p q u); holds = k1 .held .inEdges }
+  update-some : (p q : ℕ) → isSome (edge p q E) ≡ apart (bitsIn ps) p q
+  update-some p q = ap isSome (update-pair p q) ∙ some-cond (apart (bitsIn ps) p q) (orElse (edge p q (w .edges)) (newBlock t C (w .queue) p q))
 
-      sw : (p q b : ℕ) → t .sweep C p q .cell ≡ some b → Due C ch b
-      sw p q b r = inl (law .sweeps C p q b r)
+  -- the ends of a pair are points
+  pub update-ends : (p q : ℕ) → T (isSome (edge p q E)) → (p ≢ q) × T (has p (keys ps)) × T (has q (keys ps))
+  update-ends p q u = let J = apart-joined (bitsIn ps) p q (rw (update-some p q) at u) in (J .differ, rw (keys-has p ps, update-real p) (J .one), rw (keys-has q ps, update-real q) (J .other))
 
-      E : Edges
-      E = phase3 t C (w .queue) ps′ (w .edges)
+  -- Phase 4 runs the blocker of every pair over the changes.
+  update-run : (p q : ℕ) → (i : ℕ) × (j : ℕ) × (edge p q (phase4 t C ch ps E) ≡ Option·map (edgeRun t C i j ch) (edge p q E))
+  update-run = phase4-get t C ch ps update-asc E update-twins update-ends
 
-      n3 : Net (Due C ch) B E
-      n3 = phase3-net t C (Due C ch) sw ps′ real′ (asc-within 0 ps′ order) (w .queue) (w .edges) n0
+  -- every blocker named after phase 3 is occupied or will be freed
+  update-due : ((p q b : ℕ) → t .sweep C p q .cell ≡ some b → T (has b C)) → ((p q : ℕ) (v : Option ℕ) → edge p q (l .edges) ≡ some v → Due C ch v)
+      → (p q : ℕ) (v : Option ℕ) → edge p q E ≡ some v → Due C ch v
+  unfolding newBlock
+  update-due sweeps old p q v e =
+      let x = under (apart (bitsIn ps) p q) (some (orElse (edge p q (w .edges)) (newBlock t C (w .queue) p q))) v (sym (update-pair p q) ∙ e) in
+      subst (Due C ch) (Option·some-injective (orElse (edge p q (w .edges)) (newBlock t C (w .queue) p q)) v (x .1)) (go (edge p q (w .edges)) refl)
+    where
+      swept : (s : Bool) → Due C ch (cond s (t .sweep C p q .cell) (t .sweep C q p .cell))
+      swept true b r = inl (sweeps p q b r)
+      swept false b r = inl (sweeps q p b r)
 
-      full3 : (p q : ℕ) → Joined B p q → T (isSome (edge p q E))
-      full3 p q J = go (k1 .inv .full p q (joined-eq B (bitsIn (w .points)) keeps p q J))
-        where
-          go : T (isSome (edge p q (w .edges))) ⊎ (T (has p (w .queue)) ⊎ T (has q (w .queue))) → T (isSome (edge p q E))
-          go (inl u) = phase3-some t C (Due C ch) sw ps′ real′ (asc-within 0 ps′ order) (w .queue) (w .edges) p q u
-          go (inr (inl u)) = phase3-full t C (Due C ch) sw ps′ real′ (asc-within 0 ps′ order) (w .queue) (w .edges) p q u J
-          go (inr (inr u)) = rw (n3 .twins p q) (phase3-full t C (Due C ch) sw ps′ real′ (asc-within 0 ps′ order) (w .queue) (w .edges) q p u (swap J))
+      go : (o : Option (Option ℕ)) → edge p q (w .edges) ≡ o → Due C ch (orElse o (newBlock t C (w .queue) p q))
+      go none f = swept (ahead p q (w .queue))
+      go (some x) f = old p q x (marks-old t C (marks (t .shift) cs) (started l) inv p q x f)
 
-      listed : (p : ℕ) → T (anyBit (B p)) → T (has p (keys ps′))
-      listed p u = rw (keys-has p ps′, real′ p) u
+  -- ---- it is a good layer, where what the changes fill is occupied, every old blocker is due, and every bit is right or one of its corner's changes
+  module _ (law : Lawful t) (placed : Placed C ch) (points : (k : ℕ) (p : Point) → get k (l .points) ≡ some p → Due C ch (p .block))
+      (pairs : (p q : ℕ) (v : Option ℕ) → edge p q (l .edges) ≡ some v → Due C ch v) (fits : Fits C cs)
+      (right : (D : Dir) (k : ℕ) → Right (t .shift) C D k (bitsIn (l .points) k) ⊎ T (has (move (t .shift) (opp D) k) (keys cs))) where
+    edge-blocked : (p q b : ℕ) → edge p q (phase4 t C ch ps E) ≡ some (some b) → T (has b C)
+    edge-blocked p q b r =
+        let x = update-run p q in
+        let y = map-eq-some-iff (edgeRun t C (x .0) (x .1) ch) (edge p q E) .0 (sym (x .2) ∙ r) in
+        edge-due t C (x .0) (x .1) (law .sweeps C (x .0) (x .1)) ch placed (y .0) (update-due (law .sweeps C) pairs p q (y .0) (y .1)) b (y .2)
 
-      n4 : Net (λ b. T (has b C)) B (phase4 t C ch ps′ E)
-      n4 = phase4-is t C ch B ps′ E n3 (phase4-net t C (law .squares C) (law .sweeps C) ch placed B ps′ E n3 (λ p q J. (listed p (J .one), listed q (J .other))))
+    point-blocked : (k b : ℕ) (p : Point) → get k (update t C ch cs l .points) ≡ some p → p .block ≡ some b → T (has b C)
+    point-blocked k b p e r =
+        let x = point-from t C ch cs l (Due C ch) k (λ z y. inl (law .squares C k z y)) (points k) p e in
+        point-due t C k (law .squares C k) ch placed (x .0) (x .1) b (x .2 ∙ r)
 
-      full : (p q : ℕ) → Joined B p q → T (isSome (edge p q (phase4 t C ch ps′ E)))
-      full p q J = phase4-has t C ch ps′ E p q (full3 p q J) (phase4-some t C (law .squares C) (law .sweeps C) ch placed B ps′ E p q (full3 p q J))
+    exact : (k : ℕ) → bitsIn ps k ≡ want (t .shift) C k
+    exact k =
+        update-status k
+        ∙ ext-bits (statusRun (marks (t .shift) cs) k (bitsIn (l .points) k)) (want (t .shift) C k)
+        (λ D. marks-right (t .shift) C cs D k (bitsIn (l .points) k) (law .small) fits (right D k) ∙ sym (want-bit (t .shift) C k D))
+
+    pairs-are : (p q : ℕ) → isSome (edge p q (phase4 t C ch ps E)) ≡ apart (bitsIn ps) p q
+    pairs-are p q = let x = update-run p q in ap isSome (x .2) ∙ map-some (edgeRun t C (x .0) (x .1) ch) (edge p q E) ∙ update-some p q
+
+    update-good : AscL 0 C → ((k : ℕ) → T (has k C) → Inside maxCoordinate k) → Good (t .shift) C (update t C ch cs l)
+    unfolding update
+    update-good ordered inside =
+        let W = want (t .shift) C in
+        record {
+          cellOrder = ordered;
+          pointOrder = update-asc;
+          inside = inside;
+          points = exact;
+          real = update-real;
+          pairs = λ p q. (
+            λ u. joined-eq (bitsIn ps) W exact p q (apart-joined (bitsIn ps) p q (subst T (pairs-are p q) u)),
+            λ J. subst T (sym (pairs-are p q)) (joined-apart (bitsIn ps) p q (joined-eq W (bitsIn ps) (λ k. sym (exact k)) p q J)),
+          );
+          twins = phase4-twins t C ch ps E update-twins;
+          edgeBlock = edge-blocked;
+          pointBlock = point-blocked;
+        }
 
 -- ---- a batch
 -- what phase 1 needs of the old layer
-pub good-inv : (s : ℕ) (C : List ℕ) (l : Layer) → Good s C l → Inv (record { points = l .points; edges = l .edges; queue = [] })
+pub good-inv : (s : ℕ) (C : List ℕ) (l : Layer) → Good s C l → Inv (started l)
 good-inv s C l g =
     record {
       real = g .real;
@@ -154,7 +183,8 @@ good-inv s C l g =
 pub change-good : (t : Tests) → Lawful t → (C : List ℕ) (l : Layer) → Good (t .shift) C l → (b : Batch) → Asc 0 b → ((x : ℕ) → T (has x (keys b)) → Inside maxCoordinate x)
     → Good (t .shift) (cellsAfter b C) (update t (cellsAfter b C) (confirmed b C) (cornerChanges C (cellsAfter b C) (confirmed b C)) l)
 change-good t law C l g b asc inside =
-    update-good t law C′ (cells-order b C (g .cellOrder)) inside′ ch (cells-placed 0 b C asc) (cornerChanges C C′ ch) (changes-fit C C′ ch kept insideC) l (good-inv (t .shift) C l g) held right
+    update-good t C′ ch (cornerChanges C C′ ch) l (good-inv (t .shift) C l g) (g .pointOrder) law (cells-placed 0 b C asc) (λ k p e x r. due x (g .pointBlock k x p e r))
+    (λ p q v e x r. due x (g .edgeBlock p q x (e ∙ ap some r))) (changes-fit C C′ ch kept insideC) right (cells-order b C (g .cellOrder)) inside′
   where
     C′ : List ℕ
     C′ = cellsAfter b C
@@ -169,59 +199,22 @@ change-good t law C l g b asc inside =
     insideC x u = inside x (confirmed-keys b C x u)
 
     inside′ : (k : ℕ) → T (has k C′) → Inside maxCoordinate k
-    inside′ k u = go (kept k)
-      where
-        go : T (has k (keys ch)) ⊎ (has k C′ ≡ has k C) → Inside maxCoordinate k
-        go (inl v) = insideC k v
-        go (inr e) = g .inside k (rw e at u)
+    inside′ k u = ⊎-elim (insideC k) (λ e. g .inside k (rw e at u)) (kept k)
 
-    due : (x : ℕ) → T (has x C) → Due C′ ch x
+    due : (x : ℕ) → T (has x C) → T (has x C′) ⊎ T (freed x ch)
     due x u = cells-freed b C x (T→true (has x C) u)
 
-    held : Held (Due C′ ch) (record { points = l .points; edges = l .edges; queue = [] })
-    held = record { asc = g .pointOrder; inPoints = λ k x p q r. due x (g .pointBlock k x p q r); inEdges = λ p q x r. due x (g .edgeBlock p q x r) }
-
     right : (D : Dir) (k : ℕ) → Right (t .shift) C′ D k (bitsIn (l .points) k) ⊎ T (has (move (t .shift) (opp D) k) (keys (cornerChanges C C′ ch)))
-    right D k = go (changes-has C C′ ch kept insideC (move (t .shift) (opp D) k))
-      where
-        go : T (has (move (t .shift) (opp D) k) (keys (cornerChanges C C′ ch))) ⊎ (statusOf C (move (t .shift) (opp D) k) ≡ statusOf C′ (move (t .shift) (opp D) k))
-            → Right (t .shift) C′ D k (bitsIn (l .points) k) ⊎ T (has (move (t .shift) (opp D) k) (keys (cornerChanges C C′ ch)))
-        go (inl u) = inr u
-        go (inr q) = inl (ap (bit D) (g .points k) ∙ want-bit (t .shift) C k D ∙ ap (bit D) q)
+    right D k =
+        ⊎-elim (λ u. inr u) (λ q. inl (ap (bit D) (g .points k) ∙ want-bit (t .shift) C k D ∙ ap (bit D) q))
+        (changes-has C C′ ch kept insideC (move (t .shift) (opp D) k))
 
 -- ---- a fresh build
-no-points : (k : ℕ) → bitsIn [] k ≡ zero4
-unfolding bitsIn get
-no-points k = refl
-
-no-get : (k : ℕ) → _≡_ {A = Option Point} (get k []) none
-unfolding get
-no-get k = refl
-
-no-edge : (p q : ℕ) → edge p q [] ≡ none
-unfolding edge line get
-no-edge p q = refl
-
-pub rebuild-good : (t : Tests) → Lawful t → (C : List ℕ) → AscL 0 C → ((k : ℕ) → T (has k C) → Inside maxCoordinate k) → (r : Float) → Good (t .shift) C (update t C [] (cornerCells C) (record { radius = r; points = []; edges = [] }))
+pub rebuild-good : (t : Tests) → Lawful t → (C : List ℕ) → AscL 0 C → ((k : ℕ) → T (has k C) → Inside maxCoordinate k) → (r : Float)
+    → Good (t .shift) C (update t C [] (cornerCells C) (record { radius = r; points = []; edges = [] }))
+unfolding bitsIn get edge line
 rebuild-good t law C ord inside r =
-    update-good t law C ord inside [] tt (cornerCells C) (corners-fits C C (λ x u. inside-safe x (inside x u))) (record { radius = r; points = []; edges = [] }) inv held right
-  where
-    inv : Inv (record { points = []; edges = []; queue = [] })
-    inv =
-        record {
-          real = λ k. rw (no-get k, no-points k) refl;
-          twins = λ p q. no-edge p q ∙ sym (no-edge q p);
-          sound = λ p q u. absurd (let v : T false = rw (no-edge p q) at u in v);
-          full = λ p q J. absurd (let v : T false = rw (no-points p) at (J .one) in v);
-        }
-
-    held : Held (Due C []) (record { points = []; edges = []; queue = [] })
-    held = record { asc = tt; inPoints = λ k x p q r. absurd (Option·none-ne-some p (sym (no-get k) ∙ q)); inEdges = λ p q x r. absurd (Option·none-ne-some (some x) (sym (no-edge p q) ∙ r)) }
-
-    right : (D : Dir) (k : ℕ) → Right (t .shift) C D k (bitsIn [] k) ⊎ T (has (move (t .shift) (opp D) k) (keys (cornerCells C)))
-    right D k = go (corners-has C (move (t .shift) (opp D) k))
-      where
-        go : T (has (move (t .shift) (opp D) k) (keys (cornerCells C))) ⊎ (statusOf C (move (t .shift) (opp D) k) ≡ zero4)
-            → Right (t .shift) C D k (bitsIn [] k) ⊎ T (has (move (t .shift) (opp D) k) (keys (cornerCells C)))
-        go (inl u) = inr u
-        go (inr q) = inl (ap (bit D) (no-points k) ∙ ap (bit D) (sym q))
+    update-good t C [] (cornerCells C) (record { radius = r; points = []; edges = [] })
+    (record { real = λ k. refl; twins = λ p q. refl; sound = λ p q u. absurd u; full = λ p q J. absurd (J .one) }) tt law tt
+    (λ k p e. absurd (Option·none-ne-some p e)) (λ p q v e. absurd (Option·none-ne-some v e)) (corners-fits C C (λ x u. inside-safe x (inside x u)))
+    (λ D k. ⊎-elim (λ u. inr u) (λ q. inl (ap (bit D) (sym q))) (corners-has C (move (t .shift) (opp D) k))) ord inside

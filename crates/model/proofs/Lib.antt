@@ -4,6 +4,7 @@ pub mod BitLaws
 pub mod EdgeLaws
 pub mod BatchLaws
 pub mod CornerLaws
+pub mod Phase1Points
 pub mod Phase1Pairs
 pub mod Phase1Status
 pub mod Phase2
@@ -24,11 +25,6 @@ pub mod BlockLaws
 pub mod Blocks
 pub mod SingleLaws
 pub mod Phase1Once
-pub mod Phase1Survivors
-pub mod Phase1Start
-pub mod Phase2Closed
-pub mod Phase3Closed
-pub mod Phase4Closed
 pub mod ClosedForm
 pub mod ListingLaws
 pub mod AnswerLaws

@@ -1,24 +1,29 @@
--- Each bit is marked at most once in a batch, and what follows for the statuses on the way. Assumes nothing.
+-- Phase 1, each bit marked at most once: so it is in a batch, and what follows for the points on the way and for the old pairs. Assumes nothing.
 use Prim.Native.Nat.{ℕ, _≤_}
 use native.Mathlib.Decide.{ℕ-discrete}
 use mathlib.Core.Path.{_≡_, refl, sym, ap, _∙_, subst}
-use mathlib.Core.Logic.{_≢_, _⊎_, inl, inr}
-use mathlib.Core.Bool.{Bool, true, false, cond, _||_, _&&_, true≢false}
+use mathlib.Core.Logic.{_⊎_, inl, inr, ⊎-elim}
+use mathlib.Core.Bool.{Bool, true, false, not, cond, _||_, _&&_, true≢false}
 use mathlib.Core.List.{List, [], _∷_, _++_}
+use mathlib.Core.Option.{Option, none, some}
 use lib.Dec.{T, eqb, eqb→eq, eqb-refl}
 use lib.Ieee.Fits.{and-l, and-r}
-use Rattle.model.specs.Maps.{keys, has}
-use Rattle.model.specs.Cell.{Dir, SW, SE, NW, NE, move}
-use Rattle.model.specs.Corner.{Bits, zero4, bit, setBit, anyBit, sameBits, statusOf}
+use Rattle.model.specs.Maps.{keys, isSome, has}
+use Rattle.model.specs.Cell.{Dir, SW, SE, NW, NE, col, row, move}
+use Rattle.model.specs.Corner.{Bits, zero4, bit, anyBit, sameBits, statusOf, quadrant, sees}
 use Rattle.model.specs.Batch.{Batch, altered, met, cornerChanges}
-use Rattle.model.specs.Layer.{Mark, marks}
+use Rattle.model.specs.Layer.{Tests, Work, Mark, marks, edge, mark, markAll}
+use Rattle.model.specs.Good.{bitsIn, Joined}
 use Rattle.model.specs.Limits.{maxShift}
-use Rattle.model.specs.ClosedForm.{statusAfter, statusRun, Untouched, Once}
-use Rattle.model.proofs.MapLaws.{Or, or-left, or-right, true→T, notT→false, eqb-yes, eqb-no}
+use Rattle.model.specs.ClosedForm.{statusAfter, statusRun, Untouched, Once, stays, joins}
+use Rattle.model.proofs.MapLaws.{Or, or-left, or-right, T→true, true→T, notT→false}
 use Rattle.model.proofs.BitLaws.{no-bit, sameDir, ext-bits}
 use Rattle.model.proofs.SingleLaws.{Single}
 use Rattle.model.proofs.CornerLaws.{Safe, Fits}
+use Rattle.model.proofs.EdgeLaws.{only}
 use Rattle.model.proofs.Phase1Status.{to-back, after-bit, run-append}
+use Rattle.model.proofs.Phase1Points.{mark-status, stays-any}
+use Rattle.model.proofs.Phase1Pairs.{Inv, joined-map, joined-joins, mark-pair, marked}
 
 -- ---- the corner changes
 -- what was checked before is not listed
@@ -37,11 +42,7 @@ altered-fresh C C′ done (k ∷ l) x h t =
     go : (s : Bool) → has k done || sameBits (statusOf C k) (statusOf C′ k) ≡ s → T (has x (keys (cond s rest ((k, statusOf C′ k) ∷ rest))))
         → (T (has x (keys rest)) → ⊥) → ⊥
     go true q u f = f u
-    go false q u f = more (Or (eqb x k) (has x (keys rest)) u)
-      where
-        more : T (eqb x k) ⊎ T (has x (keys rest)) → ⊥
-        more (inl v) = old (sameBits (statusOf C k) (statusOf C′ k)) q (eqb→eq x k v)
-        more (inr v) = f v
+    go false q u f = ⊎-elim (λ v. old (sameBits (statusOf C k) (statusOf C′ k)) q (eqb→eq x k v)) f (Or (eqb x k) (has x (keys rest)) u)
 
 altered-single : (C C′ done l : List ℕ) → Single (keys (altered C C′ done l))
 unfolding altered has keys
@@ -64,7 +65,7 @@ unfolding cornerChanges
 changes-single C C′ ch = altered-single C C′ [] (met ch)
 
 -- ---- directions
-pub same-dir : (D d : Dir) → T (sameDir D d) → D ≡ d
+same-dir : (D d : Dir) → T (sameDir D d) → D ≡ d
 same-dir SW SW t = refl
 same-dir SW SE t = absurd t
 same-dir SW NW t = absurd t
@@ -130,15 +131,9 @@ marks-once s C (c ∷ cs) h f u = (
     other : (a b : Dir) → sameDir a b ≡ false → move s a (c .0) ≡ move s b (c .0) → a ≡ b → ⊥
     other a b e p q = no-dir a b e q
 
--- ---- one bit, and one status
-pub bit-same : (d : Dir) (v : Bool) (b : Bits) → bit d (setBit d v b) ≡ v
-bit-same SW v b = refl
-bit-same SE v b = refl
-bit-same NW v b = refl
-bit-same NE v b = refl
-
+-- ---- one bit
 -- A bit that no mark concerns stays.
-pub untouched-bit : (ms : List Mark) (d : Dir) (k : ℕ) (b : Bits) → Untouched d k ms → bit d (statusRun ms k b) ≡ bit d b
+untouched-bit : (ms : List Mark) (d : Dir) (k : ℕ) (b : Bits) → Untouched d k ms → bit d (statusRun ms k b) ≡ bit d b
 unfolding statusRun
 untouched-bit [] d k b u = refl
 untouched-bit (m ∷ ms) d k b u = untouched-bit ms d k (statusAfter m k b) (u .1) ∙ after-bit m k b d ∙ rw miss refl
@@ -147,14 +142,6 @@ untouched-bit (m ∷ ms) d k b u = untouched-bit ms d k (statusAfter m k b) (u .
     miss =
         notT→false (eqb k (m .at) && sameDir d (m .dir))
         (λ t. u .0 (eqb→eq k (m .at) (and-l (eqb k (m .at)) (sameDir d (m .dir)) t)) (same-dir d (m .dir) (and-r (eqb k (m .at)) (sameDir d (m .dir)) t)))
-
-pub after-at : (m : Mark) (k : ℕ) (b : Bits) → k ≡ m .at → statusAfter m k b ≡ setBit (m .dir) (m .on) b
-unfolding statusAfter
-after-at m k b e = rw (e, eqb-yes (m .at)) refl
-
-pub after-off : (m : Mark) (k : ℕ) (b : Bits) → k ≢ m .at → statusAfter m k b ≡ b
-unfolding statusAfter
-after-off m k b h = rw (eqb-no k (m .at) h) refl
 
 -- ---- on the way
 untouched-after : (ms ns : List Mark) (d : Dir) (k : ℕ) → Untouched d k (ms ++ ns) → Untouched d k ns
@@ -193,3 +180,72 @@ between ms ns o k b t = go (anyBit b) refl (anyBit end) refl
     go true e y f = inl (true→T (anyBit b) e)
     go false e true f = inr (true→T (anyBit end) f)
     go false e false f = absurd (let z : T (anyBit zero4) = rw (ext-bits mid zero4 (λ d. at e f d (halves ms ns o d k))) at t in z)
+
+-- ---- what the marks leave of the old pairs
+-- who sees p before a mark and in the end sees p after it: its bit is not marked again
+seen-between : (m : Mark) (ms : List Mark) → Untouched (m .dir) (m .at) ms → (p q : ℕ) (b : Bits)
+    → T (sees p q b) → T (sees p q (statusRun ms q (statusAfter m q b))) → T (sees p q (statusAfter m q b))
+unfolding sees
+seen-between m ms o p q b = go (eqb (col p) (col q) || eqb (row p) (row q))
+  where
+    D : Dir
+    D = quadrant p q
+
+    b′ : Bits
+    b′ = statusAfter m q b
+
+    here : (s : Bool) → eqb q (m .at) && sameDir D (m .dir) ≡ s → T (not (bit D b)) → T (not (bit D (statusRun ms q b′))) → T (not (bit D b′))
+    here true e x y =
+        let u = true→T (eqb q (m .at) && sameDir D (m .dir)) e in
+        let f : q ≡ m .at = eqb→eq q (m .at) (and-l (eqb q (m .at)) (sameDir D (m .dir)) u) in
+        let g : D ≡ m .dir = same-dir D (m .dir) (and-r (eqb q (m .at)) (sameDir D (m .dir)) u) in
+        rw (untouched-bit ms D q b′ (rw (g, f) o)) at y
+    here false e x y = rw (after-bit m q b D, e) x
+
+    go : (s : Bool) → T (s || not (bit D b)) → T (s || not (bit D (statusRun ms q b′))) → T (s || not (bit D b′))
+    go true x y = tt
+    go false x y = here (eqb q (m .at) && sameDir D (m .dir)) refl x y
+
+-- what is there with a and c, and under x, y and s only with j
+narrow : {A : Type 0} (a x c y s j : Bool) (o : Option A) → (T (isSome o) → T a × T c) → (T (isSome o) → T x → T y → T s → T j)
+    → cond (x && y && s) (cond j o none) none ≡ cond ((a && x) && (c && y) && s) o none
+narrow a x c y s j none f g = none-either (x && y && s) j ∙ sym (none-either ((a && x) && (c && y) && s) true)
+  where
+    none-either : {A : Type 0} (u v : Bool) → _≡_ {A = Option A} (cond u (cond v none none) none) none
+    none-either true true = refl
+    none-either true false = refl
+    none-either false v = refl
+narrow a x c y s j (some z) f g = rw (T→true a (f tt .0), T→true c (f tt .1)) (go x y s (g tt))
+  where
+    go : (x y s : Bool) → (T x → T y → T s → T j) → cond (x && y && s) (cond j (some z) none) none ≡ cond (x && y && s) (some z) none
+    go true true true h = rw (T→true j (h tt tt tt)) refl
+    go true true false h = refl
+    go true false s h = refl
+    go false y s h = refl
+
+-- Of the pairs at any moment, the marks still to come leave those whose ends stay and see each other in the end, with their blockers.
+pub run-pairs : (t : Tests) (C : List ℕ) (ms : List Mark) → Once ms → (w : Work) → Inv w → (p q : ℕ)
+    → edge p q (markAll t C ms w .edges)
+    ≡ cond (stays ms p (bitsIn (w .points) p) && stays ms q (bitsIn (w .points) q)
+    && (sees p q (statusRun ms q (bitsIn (w .points) q)) && sees q p (statusRun ms p (bitsIn (w .points) p)))) (edge p q (w .edges)) none
+unfolding markAll stays statusRun joins
+run-pairs t C [] o w v p q = only (joins (bitsIn (w .points)) p q) (edge p q (w .edges)) (λ u. joined-joins (bitsIn (w .points)) p q (v .sound p q u))
+run-pairs t C (m ∷ ms) o w v p q =
+    run-pairs t C ms (o .1) (mark t C (m .dir) (m .at) (m .on) w) (marked t C m w v) p q
+    ∙ rw (mark-status t C m w p, mark-status t C m w q, mark-pair t C m w v p q)
+    (narrow (anyBit (B p)) (stays ms p (B′ p)) (anyBit (B q)) (stays ms q (B′ q)) see (joins B′ p q) (edge p q (w .edges)) (λ u. (v .sound p q u .one, v .sound p q u .other))
+    (λ u x y z. joined-joins B′ p q (keeps (v .sound p q u) x y z)))
+  where
+    B : ℕ → Bits
+    B = bitsIn (w .points)
+
+    B′ : ℕ → Bits
+    B′ j = statusAfter m j (B j)
+
+    see : Bool
+    see = sees p q (statusRun ms q (B′ q)) && sees q p (statusRun ms p (B′ p))
+
+    keeps : Joined B p q → T (stays ms p (B′ p)) → T (stays ms q (B′ q)) → T see → Joined B′ p q
+    keeps J x y z =
+        joined-map (λ u. (stays-any ms p (B′ p) x, seen-between m ms (o .0) q p (B p) (u .1) (and-r (sees p q (statusRun ms q (B′ q))) (sees q p (statusRun ms p (B′ p))) z)))
+        (λ u. (stays-any ms q (B′ q) y, seen-between m ms (o .0) p q (B q) (u .1) (and-l (sees p q (statusRun ms q (B′ q))) (sees q p (statusRun ms p (B′ p))) z))) J

@@ -1,201 +1,196 @@
--- Phase 3: every pair with a queued end is there afterwards.
+-- Phase 3: it leaves the pairs that there are, and makes every other of two that join and of which one is queued, with the blocker of the sweep from the end queued first. Assumes nothing.
 use Prim.Native.Nat.{ℕ}
 use native.Mathlib.Decide.{ℕ-discrete}
 use mathlib.Core.Path.{_≡_, refl, sym, ap, _∙_, subst}
-use mathlib.Core.Logic.{_≢_, _⊎_, inl, inr}
-use mathlib.Core.Bool.{Bool, true, false, not, cond, _&&_, true≢false, false≢true}
+use mathlib.Core.Logic.{_≢_, ⊎-elim}
+use mathlib.Core.Bool.{Bool, true, false, not, cond, _&&_, _||_, and-true, and-false, or-true}
 use mathlib.Core.List.{List, [], _∷_}
-use mathlib.Core.Option.{Option, none, some, Option·some-injective}
-use lib.Dec.{T, eqb, eqb→eq, eqb-refl}
+use mathlib.Core.Option.{Option, none, some}
+use lib.Dec.{T, T-not, not-T, eqb, eqb→eq}
+use lib.Ieee.Fits.{and-i, and-l, and-r}
 use Rattle.model.specs.Maps.{get, keys, isSome, has}
 use Rattle.model.specs.Corner.{Bits, anyBit, sees}
 use Rattle.model.specs.Layer.{Tests, Point, Points, Edges, edge, link, wanted, connect, connectAt, phase3}
 use Rattle.model.specs.Good.{bitsIn, Joined}
-use Rattle.model.proofs.MapLaws.{true→T, Or, eqb-no, keys-has}
+use Rattle.model.specs.ClosedForm.{joins, ahead, newBlock}
+use Rattle.model.proofs.MapLaws.{T→true, true→T, notT→false, eqb-yes, eqb-no, keys-has}
 use Rattle.model.proofs.OrderLaws.{Within}
-use Rattle.model.proofs.EdgeLaws.{Twins, At, fore, back, off, place, link-off, link-fore, link-back}
-use Rattle.model.proofs.Phase1Pairs.{bits-get}
-use Rattle.model.proofs.Phase1Status.{EdgesHold}
+use Rattle.model.proofs.EdgeLaws.{Twins, cond-ap, some-cond, only, eqb-is, hits, hits-fore, hits-turn, hits-either, hits-edge, link-at}
+use Rattle.model.proofs.Phase1Points.{Real, bits-get}
+use Rattle.model.proofs.Phase1Pairs.{joins-joined, joined-joins, swap}
 
-pub swap : {B : ℕ → Bits} {p q : ℕ} → Joined B p q → Joined B q p
-swap J = record { differ = λ e. J .differ (sym e); one = J .other; other = J .one; fore = J .back; back = J .fore }
+-- ---- two points that join
+abbrev pub apart : (ℕ → Bits) → ℕ → ℕ → Bool
+apart B p q = not (eqb p q) && joins B p q
 
-pub turn : {a b c d : ℕ} → (a ≢ c) ⊎ (b ≢ d) → (b ≢ d) ⊎ (a ≢ c)
-turn (inl x) = inr x
-turn (inr x) = inl x
+pub apart-joined : (B : ℕ → Bits) (p q : ℕ) → T (apart B p q) → Joined B p q
+apart-joined B p q u =
+    joins-joined B p q (λ e. T-not (eqb p q) (and-l (not (eqb p q)) (joins B p q) u) (true→T (eqb p q) (eqb-is p q e))) (and-r (not (eqb p q)) (joins B p q) u)
 
-pub record Net (X : ℕ → Type 0) (B : ℕ → Bits) (e : Edges) : Type 0 where
-  pub twins : Twins e
-  pub sound : (p q : ℕ) → T (isSome (edge p q e)) → Joined B p q
-  pub holds : EdgesHold X e
+pub joined-apart : (B : ℕ → Bits) (p q : ℕ) → Joined B p q → T (apart B p q)
+joined-apart B p q J = and-i (not (eqb p q)) (joins B p q) (not-T (eqb p q) (λ u. J .differ (eqb→eq p q u))) (joined-joins B p q J)
 
--- ---- one new pair
-pub twins-link : (p q : ℕ) (v : Option ℕ) (e : Edges) → Twins e → Twins (link p q v e)
-twins-link p q v e tw a c = go (place a c p q)
-  where
-    go : At a c p q → edge a c (link p q v e) ≡ edge c a (link p q v e)
-    go (fore x y) = rw (x, y) (link-fore p q v e ∙ sym (link-back p q v e))
-    go (back x y) = rw (x, y) (link-back p q v e ∙ sym (link-fore p q v e))
-    go (off x y) = link-off a c p q v e x y ∙ tw a c ∙ sym (link-off c a p q v e (turn y) (turn x))
+same-T : (a b : Bool) → (T a → T b) → (T b → T a) → a ≡ b
+same-T true b f g = sym (T→true b (f tt))
+same-T false b f g = sym (notT→false b g)
 
-pub hold-link : (X : ℕ → Type 0) (p q : ℕ) (v : Option ℕ) (e : Edges) → ((b : ℕ) → v ≡ some b → X b) → EdgesHold X e → EdgesHold X (link p q v e)
-hold-link X p q v e g h a c b r = go (place a c p q)
-  where
-    go : At a c p q → X b
-    go (fore x y) = let z : edge p q (link p q v e) ≡ some (some b) = rw (x, y) at r in g b (Option·some-injective v (some b) (sym (link-fore p q v e) ∙ z))
-    go (back x y) = let z : edge q p (link p q v e) ≡ some (some b) = rw (x, y) at r in g b (Option·some-injective v (some b) (sym (link-back p q v e) ∙ z))
-    go (off x y) = h a c b (sym (link-off a c p q v e x y) ∙ r)
+apart-turn : (B : ℕ → Bits) (p q : ℕ) → apart B p q ≡ apart B q p
+apart-turn B p q =
+    same-T (apart B p q) (apart B q p) (λ u. joined-apart B q p (swap (apart-joined B p q u))) (λ u. joined-apart B p q (swap (apart-joined B q p u)))
 
-pub some-link : (p q : ℕ) (v : Option ℕ) (e : Edges) (a c : ℕ) → T (isSome (edge a c e)) → T (isSome (edge a c (link p q v e)))
-some-link p q v e a c t = go (place a c p q)
-  where
-    go : At a c p q → T (isSome (edge a c (link p q v e)))
-    go (fore x y) = rw (x, y, link-fore p q v e) tt
-    go (back x y) = rw (x, y, link-back p q v e) tt
-    go (off x y) = rw (link-off a c p q v e x y) t
+-- ---- the pair that is there, or else the new one
+abbrev pub grow : Option (Option ℕ) → Option (Option ℕ) → Option (Option ℕ)
+grow none n = n
+grow (some v) n = some v
 
-net-link : (X : ℕ → Type 0) (B : ℕ → Bits) (p q : ℕ) (v : Option ℕ) (e : Edges) → ((b : ℕ) → v ≡ some b → X b) → Joined B p q → Net X B e → Net X B (link p q v e)
-net-link X B p q v e g J n = record { twins = twins-link p q v e (n .twins); sound = λ a c t. go a c t (place a c p q); holds = hold-link X p q v e g (n .holds) }
-  where
-    go : (a c : ℕ) → T (isSome (edge a c (link p q v e))) → At a c p q → Joined B a c
-    go a c t (fore x y) = rw (x, y) J
-    go a c t (back x y) = rw (x, y) (swap J)
-    go a c t (off x y) = n .sound a c (rw (link-off a c p q v e x y) at t)
+grow-none : (o : Option (Option ℕ)) → o ≡ grow o none
+grow-none none = refl
+grow-none (some v) = refl
 
--- ---- one queued point against another point
-and4 : (a b c d : Bool) → a && b && c && d ≡ true → T a × T b × T c × T d
-and4 true true true true e = (tt, tt, tt, tt)
-and4 true true true false e = absurd (false≢true e)
-and4 true true false d e = absurd (false≢true e)
-and4 true false c d e = absurd (false≢true e)
-and4 false b c d e = absurd (false≢true e)
+cond-same : {A : Type 0} (s : Bool) (x : A) → cond s x x ≡ x
+cond-same true x = refl
+cond-same false x = refl
 
-third : (a b c d : Bool) → a && b && c && d ≡ false → T a → T c → T d → T (not b)
-third true true true true e x y z = absurd (true≢false e)
-third true true true false e x y z = absurd z
-third true true false d e x y z = absurd y
-third true false c d e x y z = tt
-third false b c d e x y z = absurd x
+grow-grow : (o n m : Option (Option ℕ)) → grow (grow o n) m ≡ grow o (grow n m)
+grow-grow none n m = refl
+grow-grow (some v) n m = refl
 
-unnot : (b : Bool) → T (not (not b)) → T b
-unnot true t = tt
-unnot false t = t
+-- the pair of p and q that the queue qs makes, the statuses being B
+abbrev pub news : Tests → List ℕ → (ℕ → Bits) → List ℕ → ℕ → ℕ → Option (Option ℕ)
+news t C B qs p q = cond (apart B p q && (has p qs || has q qs)) (some (newBlock t C qs p q)) none
 
-not-eqb : (m n : ℕ) → T (not (eqb m n)) → m ≢ n
-not-eqb m n t e = go (eqb m n) t (subst (λ (z : ℕ). T (eqb m z)) e (eqb-refl m))
-  where
-    go : (b : Bool) → T (not b) → T b → ⊥
-    go true x y = x
-    go false x y = y
+module _ (t : Tests) (C : List ℕ) (ps : Points) (real : Real ps) (inside : Within ps ps) where
+  abbrev B : ℕ → Bits
+  B = bitsIn ps
 
-eqb-not : (m n : ℕ) → m ≢ n → T (not (eqb m n))
-eqb-not m n h = rw (eqb-no m n h) tt
+  -- the new pair of k, which is queued, and q
+  abbrev fresh : ℕ → ℕ → Option (Option ℕ)
+  fresh k q = cond (apart B k q) (some (t .sweep C k q .cell)) none
 
-module _ (t : Tests) (C : List ℕ) (X : ℕ → Type 0) (sweeps : (p q b : ℕ) → t .sweep C p q .cell ≡ some b → X b) (ps : Points)
-    (real : (k : ℕ) → isSome (get k ps) ≡ anyBit (bitsIn ps k)) where
-  present : (k : ℕ) (p : Point) → get k ps ≡ some p → T (anyBit (bitsIn ps k))
-  present k p e = true→T (anyBit (bitsIn ps k)) (sym (real k) ∙ ap isSome e)
+  listed : (k q : ℕ) → fresh k q ≡ cond (has q (keys ps)) (fresh k q) none
+  listed k q =
+      only (has q (keys ps)) (fresh k q) (λ u. rw (keys-has q ps, real q) (apart-joined B k q (subst T (some-cond (apart B k q) (t .sweep C k q .cell)) u) .other))
 
-  module _ (k : ℕ) (p : Point) (e : get k ps ≡ some p) where
+  -- what the queued point k makes of the pairs E
+  record Made (k : ℕ) (E E′ : Edges) : Type 0 where
+    twins : Twins E′
+    at : (q : ℕ) → edge k q E′ ≡ grow (edge k q E) (fresh k q)
+    off : (p q : ℕ) → p ≢ k → q ≢ k → edge p q E′ ≡ edge p q E
+
+  -- ---- one queued point against another point
+  module _ (k : ℕ) (P : Point) (e : get k ps ≡ some P) where
     abbrev step : ℕ × Point → Edges → Edges
-    step o E = cond (wanted t C k (p .bits) (o .0) (o .1 .bits) E) (link k (o .0) (t .sweep C k (o .0) .cell) E) E
+    step o E = cond (wanted t C k (P .bits) (o .0) (o .1 .bits) E) (link k (o .0) (t .sweep C k (o .0) .cell) E) E
 
-    joins : (o : ℕ × Point) (E : Edges) → get (o .0) ps ≡ some (o .1) → wanted t C k (p .bits) (o .0) (o .1 .bits) E ≡ true → Joined (bitsIn ps) k (o .0)
-    unfolding wanted
-    joins o E f q =
-        let r = and4 (not (eqb k (o .0))) (not (isSome (edge k (o .0) E))) (sees k (o .0) (o .1 .bits)) (sees (o .0) k (p .bits)) q in
-        record {
-          differ = not-eqb k (o .0) (r .0);
-          one = present k p e;
-          other = present (o .0) (o .1) f;
-          fore = rw (bits-get (o .0) ps (some (o .1)) f) (r .2);
-          back = rw (bits-get k ps (some p) e) (r .3);
-        }
+    there : (j : ℕ) (Q : Point) → get j ps ≡ some Q → anyBit (Q .bits) ≡ true
+    there j Q f = ap anyBit (sym (bits-get j ps (some Q) f)) ∙ sym (real j) ∙ ap isSome f
 
-    step-net : (o : ℕ × Point) (E : Edges) → get (o .0) ps ≡ some (o .1) → Net X (bitsIn ps) E → Net X (bitsIn ps) (step o E)
-    step-net o E f n = go (wanted t C k (p .bits) (o .0) (o .1 .bits) E) refl
+    wanted-is : (o : ℕ × Point) (E : Edges) → get (o .0) ps ≡ some (o .1) → wanted t C k (P .bits) (o .0) (o .1 .bits) E ≡ not (isSome (edge k (o .0) E)) && apart B k (o .0)
+    unfolding wanted joins
+    wanted-is o E f =
+        rw (bits-get k ps (some P) e, bits-get (o .0) ps (some (o .1)) f, there k P e, there (o .0) (o .1) f)
+        (go (not (eqb k (o .0))) (not (isSome (edge k (o .0) E))) (sees k (o .0) (o .1 .bits)) (sees (o .0) k (P .bits)))
       where
-        go : (s : Bool) → wanted t C k (p .bits) (o .0) (o .1 .bits) E ≡ s → Net X (bitsIn ps) (cond s (link k (o .0) (t .sweep C k (o .0) .cell) E) E)
-        go true q = net-link X (bitsIn ps) k (o .0) (t .sweep C k (o .0) .cell) E (sweeps k (o .0)) (joins o E f q) n
-        go false q = n
+        go : (n i x y : Bool) → n && i && x && y ≡ i && (n && (x && y))
+        go true true x y = refl
+        go true false x y = refl
+        go false true x y = refl
+        go false false x y = refl
 
-    step-some : (o : ℕ × Point) (E : Edges) (a c : ℕ) → T (isSome (edge a c E)) → T (isSome (edge a c (step o E)))
-    step-some o E a c u = go (wanted t C k (p .bits) (o .0) (o .1 .bits) E)
+    step-at : (o : ℕ × Point) (E : Edges) → get (o .0) ps ≡ some (o .1) → Twins E → (p q : ℕ) → edge p q (step o E) ≡ grow (edge p q E) (cond (hits p q k (o .0)) (fresh k (o .0)) none)
+    step-at o E f tw p q =
+        rw (wanted-is o E f)
+        (cond-ap (edge p q) (not (isSome (edge k (o .0) E)) && apart B k (o .0)) (link k (o .0) v E) E
+        ∙ rw (link-at p q k (o .0) v E) (go (hits p q k (o .0)) (apart B k (o .0)) (edge k (o .0) E) (edge p q E) (hits-edge p q k (o .0) E tw)))
       where
-        go : (s : Bool) → T (isSome (edge a c (cond s (link k (o .0) (t .sweep C k (o .0) .cell) E) E)))
-        go true = some-link k (o .0) (t .sweep C k (o .0) .cell) E a c u
-        go false = u
+        v : Option ℕ
+        v = t .sweep C k (o .0) .cell
 
-    step-full : (o : ℕ × Point) (E : Edges) → get (o .0) ps ≡ some (o .1) → Joined (bitsIn ps) k (o .0) → T (isSome (edge k (o .0) (step o E)))
-    unfolding wanted
-    step-full o E f J = go (wanted t C k (p .bits) (o .0) (o .1 .bits) E) refl
-      where
-        go : (s : Bool) → wanted t C k (p .bits) (o .0) (o .1 .bits) E ≡ s → T (isSome (edge k (o .0) (cond s (link k (o .0) (t .sweep C k (o .0) .cell) E) E)))
-        go true q = rw (link-fore k (o .0) (t .sweep C k (o .0) .cell) E) tt
-        go false q =
-            unnot (isSome (edge k (o .0) E))
-            (third (not (eqb k (o .0))) (not (isSome (edge k (o .0) E))) (sees k (o .0) (o .1 .bits)) (sees (o .0) k (p .bits)) q
-            (eqb-not k (o .0) (J .differ)) (rw (bits-get (o .0) ps (some (o .1)) f) at (J .fore)) (rw (bits-get k ps (some p) e) at (J .back)))
+        go : (h a : Bool) (x z : Option (Option ℕ)) → (T h → z ≡ x) → cond (not (isSome x) && a) (cond h (some v) z) z ≡ grow z (cond h (cond a (some v) none) none)
+        go true a none z g = rw (g tt) refl
+        go true a (some y) z g = rw (g tt) refl
+        go false a x z g = cond-same (not (isSome x) && a) z ∙ grow-none z
+
+    step-twins : (o : ℕ × Point) (E : Edges) → get (o .0) ps ≡ some (o .1) → Twins E → Twins (step o E)
+    step-twins o E f tw p q = step-at o E f tw p q ∙ rw (hits-turn p q k (o .0), tw p q) (sym (step-at o E f tw q p))
 
     -- ---- against all points
-    connect-net : (os : Points) (E : Edges) → Within ps os → Net X (bitsIn ps) E → Net X (bitsIn ps) (connect t C k (p .bits) os E)
+    connect-twins : (os : Points) (E : Edges) → Within ps os → Twins E → Twins (connect t C k (P .bits) os E)
     unfolding connect
-    connect-net [] E f n = n
-    connect-net (o ∷ os) E f n = connect-net os (step o E) (f .1) (step-net o E (f .0) n)
+    connect-twins [] E f tw = tw
+    connect-twins (o ∷ os) E f tw = connect-twins os (step o E) (f .1) (step-twins o E (f .0) tw)
 
-    connect-some : (os : Points) (E : Edges) (a c : ℕ) → T (isSome (edge a c E)) → T (isSome (edge a c (connect t C k (p .bits) os E)))
+    connect-off : (os : Points) (E : Edges) → Within ps os → Twins E → (p q : ℕ) → p ≢ k → q ≢ k → edge p q (connect t C k (P .bits) os E) ≡ edge p q E
     unfolding connect
-    connect-some [] E a c u = u
-    connect-some (o ∷ os) E a c u = connect-some os (step o E) a c (step-some o E a c u)
+    connect-off [] E f tw p q x y = refl
+    connect-off (o ∷ os) E f tw p q x y =
+        connect-off os (step o E) (f .1) (step-twins o E (f .0) tw) p q x y ∙ step-at o E (f .0) tw p q
+        ∙ rw (eqb-no p k x, eqb-no q k y, and-false (eqb p (o .0))) (sym (grow-none (edge p q E)))
 
-    connect-full : (os : Points) (E : Edges) (q : ℕ) → Within ps os → T (has q (keys os)) → Joined (bitsIn ps) k q → T (isSome (edge k q (connect t C k (p .bits) os E)))
+    connect-at : (os : Points) (E : Edges) → Within ps os → Twins E → (q : ℕ) → edge k q (connect t C k (P .bits) os E) ≡ grow (edge k q E) (cond (has q (keys os)) (fresh k q) none)
     unfolding connect keys has
-    connect-full [] E q f u J = absurd u
-    connect-full (o ∷ os) E q f u J = go (ℕ-discrete q (o .0)) (Or (eqb q (o .0)) (has q (keys os)) u) (λ v. connect-full os (step o E) q (f .1) v J)
+    connect-at [] E f tw q = grow-none (edge k q E)
+    connect-at (o ∷ os) E f tw q =
+        connect-at os (step o E) (f .1) (step-twins o E (f .0) tw) q ∙ ap (λ (z : Option (Option ℕ)). grow z rest) (step-at o E (f .0) tw k q)
+        ∙ grow-grow (edge k q E) (cond (hits k q k (o .0)) (fresh k (o .0)) none) rest ∙ ap (grow (edge k q E)) (go (ℕ-discrete q (o .0)))
       where
-        go : Dec (q ≡ o .0) → T (eqb q (o .0)) ⊎ T (has q (keys os)) → (T (has q (keys os)) → T (isSome (edge k q (connect t C k (p .bits) os (step o E)))))
-            → T (isSome (edge k q (connect t C k (p .bits) os (step o E))))
-        go (yes x) d ih = connect-some os (step o E) k q (let J′ : Joined (bitsIn ps) k (o .0) = subst (λ (z : ℕ). Joined (bitsIn ps) k z) x J in subst (λ (z : ℕ). T (isSome (edge k z (step o E)))) (sym x) (step-full o E (f .0) J′))
-        go (no x) (inl v) ih = absurd (x (eqb→eq q (o .0) v))
-        go (no x) (inr v) ih = ih v
+        rest : Option (Option ℕ)
+        rest = cond (has q (keys os)) (fresh k q) none
+
+        again : (h : Bool) (n : Option (Option ℕ)) → grow n (cond h n none) ≡ n
+        again true none = refl
+        again false none = refl
+        again h (some v) = refl
+
+        other : T (hits k q k (o .0)) → q ≡ o .0
+        other u = ⊎-elim (λ x. x .1) (λ x. x .1 ∙ x .0) (hits-either k q k (o .0) u)
+
+        go : Dec (q ≡ o .0) → grow (cond (hits k q k (o .0)) (fresh k (o .0)) none) rest ≡ cond (eqb q (o .0) || has q (keys os)) (fresh k q) none
+        go (yes x) = rw (← x, T→true (hits k q k q) (hits-fore k q), eqb-yes q) (again (has q (keys os)) (fresh k q))
+        go (no x) = rw (notT→false (hits k q k (o .0)) (λ u. x (other u)), eqb-no q (o .0) x) refl
+
+  made : (k : ℕ) (o : Option Point) → get k ps ≡ o → (E : Edges) → Twins E → Made k E (connectAt t C o k ps E)
+  made k none e E tw = record { twins = tw; at = λ q. rw (nobody q) (grow-none (edge k q E)); off = λ p q x y. refl }
+    where
+      nobody : (q : ℕ) → apart B k q ≡ false
+      nobody q = notT→false (apart B k q) (λ u. let x : T (anyBit (B k)) = apart-joined B k q u .one in let y : T false = rw (← real k, e) at x in y)
+  made k (some P) e E tw =
+      record { twins = connect-twins k P e ps E inside tw; at = λ q. rw (listed k q) (connect-at k P e ps E inside tw q); off = connect-off k P e ps E inside tw }
 
   -- ---- the queue
-  module _ (inside : Within ps ps) where
-    at-net : (k : ℕ) (o : Option Point) (E : Edges) → get k ps ≡ o → Net X (bitsIn ps) E → Net X (bitsIn ps) (connectAt t C o k ps E)
-    at-net k none E e n = n
-    at-net k (some p) E e n = connect-net k p e ps E inside n
+  pub phase3-twins : (qs : List ℕ) (E : Edges) → Twins E → Twins (phase3 t C qs ps E)
+  unfolding phase3
+  phase3-twins [] E tw = tw
+  phase3-twins (k ∷ qs) E tw = phase3-twins qs (connectAt t C (get k ps) k ps E) (made k (get k ps) refl E tw .twins)
 
-    at-some : (k : ℕ) (o : Option Point) (E : Edges) → get k ps ≡ o → (a c : ℕ) → T (isSome (edge a c E)) → T (isSome (edge a c (connectAt t C o k ps E)))
-    at-some k none E e a c u = u
-    at-some k (some p) E e a c u = connect-some k p e ps E a c u
+  -- A pair that is there stays as it is; one that is not is made if its ends join and one of them is queued.
+  pub phase3-get : (qs : List ℕ) (E : Edges) → Twins E → (p q : ℕ) → edge p q (phase3 t C qs ps E) ≡ grow (edge p q E) (news t C B qs p q)
+  unfolding phase3 has newBlock ahead
+  phase3-get [] E tw p q = rw (and-false (apart B p q)) (grow-none (edge p q E))
+  phase3-get (k ∷ qs) E tw p q = phase3-get qs next (M .twins) p q ∙ go (ℕ-discrete p k) (ℕ-discrete q k)
+    where
+      next : Edges
+      next = connectAt t C (get k ps) k ps E
 
-    listed : (q : ℕ) → T (anyBit (bitsIn ps q)) → T (has q (keys ps))
-    listed q u = rw (keys-has q ps, real q) u
+      M : Made k E next
+      M = made k (get k ps) refl E tw
 
-    at-full : (k : ℕ) (o : Option Point) (E : Edges) → get k ps ≡ o → (q : ℕ) → Joined (bitsIn ps) k q → T (isSome (edge k q (connectAt t C o k ps E)))
-    at-full k none E e q J = absurd (let u : T (isSome (get k ps)) = rw (real k) (J .one) in let v : T false = rw e at u in v)
-    at-full k (some p) E e q J = connect-full k p e ps E q inside (listed q (J .other)) J
+      -- what k has made stays
+      first : (n : Option ℕ) (a h : Bool) → grow (cond a (some n) none) (cond (a && h) (some (newBlock t C qs p q)) none) ≡ cond a (some n) none
+      first n true h = refl
+      first n false h = refl
 
-    pub phase3-net : (qs : List ℕ) (E : Edges) → Net X (bitsIn ps) E → Net X (bitsIn ps) (phase3 t C qs ps E)
-    unfolding phase3
-    phase3-net [] E n = n
-    phase3-net (k ∷ qs) E n = phase3-net qs (connectAt t C (get k ps) k ps E) (at-net k (get k ps) E refl n)
+      new : Option ℕ → Option (Option ℕ)
+      new n = cond (apart B p q) (some n) none
 
-    pub phase3-some : (qs : List ℕ) (E : Edges) (a c : ℕ) → T (isSome (edge a c E)) → T (isSome (edge a c (phase3 t C qs ps E)))
-    unfolding phase3
-    phase3-some [] E a c u = u
-    phase3-some (k ∷ qs) E a c u = phase3-some qs (connectAt t C (get k ps) k ps E) a c (at-some k (get k ps) E refl a c u)
+      here : (n : Option ℕ) → edge p q next ≡ grow (edge p q E) (new n) → grow (edge p q next) (news t C B qs p q) ≡ grow (edge p q E) (new n)
+      here n x = rw x (grow-grow (edge p q E) (new n) (news t C B qs p q) ∙ ap (grow (edge p q E)) (first n (apart B p q) (has p qs || has q qs)))
 
-    pub phase3-full : (qs : List ℕ) (E : Edges) (p q : ℕ) → T (has p qs) → Joined (bitsIn ps) p q → T (isSome (edge p q (phase3 t C qs ps E)))
-    unfolding phase3 has
-    phase3-full [] E p q u J = absurd u
-    phase3-full (k ∷ qs) E p q u J =
-        go (ℕ-discrete p k) (Or (eqb p k) (has p qs) u) (λ v. phase3-full qs (connectAt t C (get k ps) k ps E) p q v J)
-      where
-        next : Edges
-        next = connectAt t C (get k ps) k ps E
-
-        go : Dec (p ≡ k) → T (eqb p k) ⊎ T (has p qs) → (T (has p qs) → T (isSome (edge p q (phase3 t C qs ps next)))) → T (isSome (edge p q (phase3 t C qs ps next)))
-        go (yes x) d ih = phase3-some qs next p q (let J′ : Joined (bitsIn ps) k q = subst (λ (z : ℕ). Joined (bitsIn ps) z q) x J in subst (λ (z : ℕ). T (isSome (edge z q next))) (sym x) (at-full k (get k ps) E refl q J′))
-        go (no x) (inl v) ih = absurd (x (eqb→eq p k v))
-        go (no x) (inr v) ih = ih v
+      go : Dec (p ≡ k) → Dec (q ≡ k) → grow (edge p q next) (news t C B qs p q)
+          ≡ grow (edge p q E) (cond (apart B p q && ((eqb p k || has p qs) || (eqb q k || has q qs)))
+          (some (cond (cond (eqb k p) true (cond (eqb k q) false (ahead p q qs))) (t .sweep C p q .cell) (t .sweep C q p .cell))) none)
+      go (yes x) d = rw (eqb-is p k x, eqb-is k p (sym x), and-true (apart B p q)) (here (t .sweep C p q .cell) (rw x (M .at q)))
+      go (no x) (yes y) =
+          rw (eqb-is q k y, eqb-is k q (sym y), eqb-no k p (λ z. x (sym z)), or-true (eqb p k || has p qs), and-true (apart B p q))
+          (here (t .sweep C q p .cell) (M .twins p q ∙ rw (apart-turn B p q, tw p q, y) (M .at p)))
+      go (no x) (no y) = rw (eqb-no p k x, eqb-no q k y, eqb-no k p (λ z. x (sym z)), eqb-no k q (λ z. y (sym z)), M .off p q x y) refl

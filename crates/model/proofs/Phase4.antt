@@ -1,160 +1,161 @@
--- Phase 4: it keeps which pairs there are, and in the end every named blocker is occupied.
-use Prim.Native.Nat.{ℕ}
+-- Phase 4: it gives every pair the blocker that its run over the changes, from its lesser to its greater cell, leaves. Assumes nothing.
+use Prim.Native.Nat.{ℕ, suc, _≤_, _<_}
 use native.Mathlib.Decide.{ℕ-discrete}
-use mathlib.Core.Path.{_≡_, refl, sym, ap, _∙_, subst}
-use mathlib.Core.Logic.{_≢_, _⊎_, inl, inr}
+use native.Mathlib.Omega.{arith}
+use mathlib.Core.Path.{_≡_, refl, ap, _∙_}
+use mathlib.Core.Logic.{_≢_, _⊎_, inl, inr, ⊎-elim}
+use mathlib.Core.Bool.{Bool, true, false, cond, _||_, _&&_, and-false, and-or-distrib-left}
 use mathlib.Core.List.{List, [], _∷_}
-use mathlib.Core.Option.{Option, none, some, Option·none-ne-some, Option·some-injective}
+use mathlib.Core.Option.{Option, none, some, Option·map}
 use lib.Dec.{T, eqb, eqb→eq}
-use Rattle.model.specs.Maps.{keys, isSome, has}
-use Rattle.model.specs.Corner.{Bits}
+use lib.Ieee.Fits.{and-i, and-l, and-r}
+use Rattle.ieee.proofs.Tools.{lt-or-ge}
+use Rattle.model.specs.Maps.{keys, isSome, has, Asc}
 use Rattle.model.specs.Batch.{Batch}
-use Rattle.model.specs.Layer.{Tests, Points, Edges, edge, link, edgeRun, settleAt, settleRow, settleAll}
-use Rattle.model.specs.Good.{Joined}
-use Rattle.model.proofs.MapLaws.{Or}
-use Rattle.model.proofs.EdgeLaws.{Twins, At, fore, back, off, place, link-off, link-fore}
-use Rattle.model.proofs.BatchLaws.{Placed}
-use Rattle.model.proofs.Phase1Status.{EdgesHold}
-use Rattle.model.proofs.Phase2.{Due, run-due}
-use Rattle.model.proofs.Phase3.{Net, twins-link, hold-link, some-link}
+use Rattle.model.specs.Layer.{Tests, Points, Edges, edge, edgeRun, settleAt, settleRow, settleAll, phase4}
+use Rattle.model.proofs.MapLaws.{Or, or-left, or-right, T→true, notT→false, eqb-yes, eqb-no}
+use Rattle.model.proofs.SingleLaws.{asc-miss}
+use Rattle.model.proofs.EdgeLaws.{Twins, hits, hits-fore, hits-either, link-at, twins-link}
 
-module _ (t : Tests) (C : List ℕ) (squares : (k b : ℕ) → t .square C k .cell ≡ some b → T (has b C)) (sweeps : (p q b : ℕ) → t .sweep C p q .cell ≡ some b → T (has b C))
-    (ch : Batch) (placed : Placed C ch) (B : ℕ → Bits) where
-  -- the pair's blocker is occupied
-  abbrev Settled : ℕ → ℕ → Edges → Type 0
-  Settled p q e = (b : ℕ) → edge p q e ≡ some (some b) → T (has b C)
+-- p stands in the list, and q after it
+abbrev before : ℕ → ℕ → Points → Bool
+before p q [] = false
+before p q (i ∷ is) = (eqb p (i .0) && has q (keys is)) || before p q is
 
+before-has : (p q : ℕ) (is : Points) → T (before p q is) → T (has p (keys is))
+unfolding keys has
+before-has p q [] u = u
+before-has p q (i ∷ is) u =
+    ⊎-elim (λ x. or-left (eqb p (i .0)) (has p (keys is)) (and-l (eqb p (i .0)) (has q (keys is)) x)) (λ x. or-right (eqb p (i .0)) (has p (keys is)) (before-has p q is x))
+    (Or (eqb p (i .0) && has q (keys is)) (before p q is) u)
+
+before-yes : (p q lo : ℕ) (is : Points) → Asc lo is → p < q → T (has p (keys is)) → T (has q (keys is)) → T (before p q is)
+unfolding keys has
+before-yes p q lo [] a l x y = x
+before-yes p q lo (i ∷ is) a l x y =
+    go (Or (eqb p (i .0)) (has p (keys is)) x) (Or (eqb q (i .0)) (has q (keys is)) y) (before-yes p q (suc (i .0)) is (a .1) l)
+  where
+    go : T (eqb p (i .0)) ⊎ T (has p (keys is)) → T (eqb q (i .0)) ⊎ T (has q (keys is)) → (T (has p (keys is)) → T (has q (keys is)) → T (before p q is))
+        → T ((eqb p (i .0) && has q (keys is)) || before p q is)
+    go (inl u) (inl v) ih = let e : p ≡ i .0 = eqb→eq p (i .0) u in let f : q ≡ i .0 = eqb→eq q (i .0) v in absurd (omega arith)
+    go (inl u) (inr v) ih = or-left (eqb p (i .0) && has q (keys is)) (before p q is) (and-i (eqb p (i .0)) (has q (keys is)) u v)
+    go (inr u) (inl v) ih = let f : q ≡ i .0 = eqb→eq q (i .0) v in let h : p < suc (i .0) = omega arith in absurd (asc-miss (suc (i .0)) p is (a .1) h u)
+    go (inr u) (inr v) ih = or-right (eqb p (i .0) && has q (keys is)) (before p q is) (ih u v)
+
+-- what is changed by one of two turns and not by both
+once : {A : Type 0} (r : A → A) (x : A) (a b : Bool) → (T a → T b → ⊥) → cond b (r (cond a (r x) x)) (cond a (r x) x) ≡ cond (a || b) (r x) x
+once r x true true f = absurd (f tt tt)
+once r x true false f = refl
+once r x false b f = refl
+
+module _ (t : Tests) (C : List ℕ) (ch : Batch) where
   abbrev settle : ℕ → ℕ → Edges → Edges
-  settle i j e = settleAt t C i j ch (edge i j e) e
+  settle i j E = settleAt t C i j ch (edge i j E) E
 
-  -- what one pair's turn does, by what stands there
-  ran : (i j : ℕ) (e : Edges) → EdgesHold (Due C ch) e → (v : Option ℕ) → edge i j e ≡ some v → (b : ℕ) → edgeRun t C i j ch v ≡ some b → T (has b C)
-  ran i j e h v q b r = run-due t C squares sweeps i j ch v placed (λ x u. h i j x (q ∙ ap some u)) b r
+  module _ (p q : ℕ) (le : p ≤ q) where
+    abbrev run : Option (Option ℕ) → Option (Option ℕ)
+    run = Option·map (edgeRun t C p q ch)
 
-  link-sound : (i j : ℕ) (v v′ : Option ℕ) (e : Edges) → Net (Due C ch) B e → edge i j e ≡ some v → (p q : ℕ) → T (isSome (edge p q (link i j v′ e))) → Joined B p q
-  link-sound i j v v′ e n r p q u = go (place p q i j)
-    where
-      go : At p q i j → Joined B p q
-      go (fore x y) = n .sound p q (rw (x, y, r) tt)
-      go (back x y) = n .sound p q (rw (x, y, n .twins j i, r) tt)
-      go (off x y) = n .sound p q (rw (link-off p q i j v′ e x y) at u)
+    -- ---- the turn of the pair of i and j
+    settle-at : (i j : ℕ) → i < j → (E : Edges) → edge p q (settle i j E) ≡ cond (eqb p i && eqb q j) (run (edge p q E)) (edge p q E)
+    settle-at i j l E = go (ℕ-discrete p i) (ℕ-discrete q j)
+      where
+        own : (o : Option (Option ℕ)) → edge i j E ≡ o → edge i j (settleAt t C i j ch o E) ≡ Option·map (edgeRun t C i j ch) o
+        own none e = e
+        own (some v) e = link-at i j i j (edgeRun t C i j ch v) E ∙ rw (T→true (hits i j i j) (hits-fore i j)) refl
 
-  at-net : (i j : ℕ) (o : Option (Option ℕ)) (e : Edges) → edge i j e ≡ o → Net (Due C ch) B e → Net (Due C ch) B (settleAt t C i j ch o e)
-  at-net i j none e r n = n
-  at-net i j (some v) e r n =
-      record {
-        twins = twins-link i j (edgeRun t C i j ch v) e (n .twins);
-        sound = link-sound i j v (edgeRun t C i j ch v) e n r;
-        holds = hold-link (Due C ch) i j (edgeRun t C i j ch v) e (λ b q. inl (ran i j e (n .holds) v r b q)) (n .holds);
-      }
+        off : (T (hits p q i j) → ⊥) → (o : Option (Option ℕ)) → edge p q (settleAt t C i j ch o E) ≡ edge p q E
+        off n none = refl
+        off n (some v) = link-at p q i j (edgeRun t C i j ch v) E ∙ rw (notT→false (hits p q i j) n) refl
 
-  at-some : (i j : ℕ) (o : Option (Option ℕ)) (e : Edges) (p q : ℕ) → T (isSome (edge p q e)) → T (isSome (edge p q (settleAt t C i j ch o e)))
-  at-some i j none e p q u = u
-  at-some i j (some v) e p q u = some-link i j (edgeRun t C i j ch v) e p q u
+        only : ((p ≡ i) × (q ≡ j)) ⊎ ((p ≡ j) × (q ≡ i)) → (p ≡ i) × (q ≡ j)
+        only (inl h) = h
+        only (inr h) = let x = h .0 in let y = h .1 in absurd (omega arith)
 
-  -- the pair is settled, and a settled one stays so
-  at-pair : (i j : ℕ) (o : Option (Option ℕ)) (e : Edges) → edge i j e ≡ o → Net (Due C ch) B e → Settled i j (settleAt t C i j ch o e)
-  at-pair i j none e r n b q = absurd (Option·none-ne-some (some b) (sym r ∙ q))
-  at-pair i j (some v) e r n b q = ran i j e (n .holds) v r b (Option·some-injective (edgeRun t C i j ch v) (some b) (sym (link-fore i j (edgeRun t C i j ch v) e) ∙ q))
+        go : Dec (p ≡ i) → Dec (q ≡ j) → edge p q (settle i j E) ≡ cond (eqb p i && eqb q j) (run (edge p q E)) (edge p q E)
+        go (yes x) (yes y) = rw (x, y, eqb-yes i, eqb-yes j) (own (edge i j E) refl)
+        go (yes x) (no y) = rw (eqb-no q j y, and-false (eqb p i)) (off (λ u. y (only (hits-either p q i j u) .1)) (edge i j E))
+        go (no x) y = rw (eqb-no p i x) (off (λ u. x (only (hits-either p q i j u) .0)) (edge i j E))
 
-  at-back : (i j : ℕ) (o : Option (Option ℕ)) (e : Edges) → edge i j e ≡ o → Net (Due C ch) B e → Settled j i (settleAt t C i j ch o e)
-  at-back i j o e r n b q = at-pair i j o e r n b (at-net i j o e r n .twins i j ∙ q)
+    -- ---- one point with those after it
+    row-at : (i : ℕ) (js : Points) (lo : ℕ) → Asc lo js → i < lo → (E : Edges) → edge p q (settleRow t C i ch js E) ≡ cond (eqb p i && has q (keys js)) (run (edge p q E)) (edge p q E)
+    unfolding settleRow keys has
+    row-at i [] lo a h E = rw (and-false (eqb p i)) refl
+    row-at i (j ∷ js) lo a h E =
+        let x = a .0 in
+        let l : i < j .0 = omega arith in
+        row-at i js (suc (j .0)) (a .1) (omega arith) (settle i (j .0) E)
+        ∙ rw (settle-at i (j .0) l E, and-or-distrib-left (eqb p i) (eqb q (j .0)) (has q (keys js))) (once run (edge p q E) (eqb p i && eqb q (j .0)) (eqb p i && has q (keys js)) clash)
+      where
+        clash : T (eqb p i && eqb q (j .0)) → T (eqb p i && has q (keys js)) → ⊥
+        clash u v =
+            let e : q ≡ j .0 = eqb→eq q (j .0) (and-r (eqb p i) (eqb q (j .0)) u) in
+            let l : q < suc (j .0) = omega arith in
+            asc-miss (suc (j .0)) q js (a .1) l (and-r (eqb p i) (has q (keys js)) v)
 
-  at-stay : (i j : ℕ) (o : Option (Option ℕ)) (e : Edges) → edge i j e ≡ o → Net (Due C ch) B e → (p q : ℕ) → Settled p q e → Settled p q (settleAt t C i j ch o e)
-  at-stay i j none e r n p q s = s
-  at-stay i j (some v) e r n p q s = go (place p q i j)
-    where
-      E : Edges
-      E = link i j (edgeRun t C i j ch v) e
+    -- ---- all
+    all-at : (is : Points) (lo : ℕ) → Asc lo is → (E : Edges) → edge p q (settleAll t C ch is E) ≡ cond (before p q is) (run (edge p q E)) (edge p q E)
+    unfolding settleAll
+    all-at [] lo a E = refl
+    all-at (i ∷ is) lo a E =
+        all-at is (suc (i .0)) (a .1) (settleRow t C (i .0) ch is E)
+        ∙ rw (row-at (i .0) is (suc (i .0)) (a .1) (omega arith) E) (once run (edge p q E) (eqb p (i .0) && has q (keys is)) (before p q is) clash)
+      where
+        clash : T (eqb p (i .0) && has q (keys is)) → T (before p q is) → ⊥
+        clash u v =
+            let e : p ≡ i .0 = eqb→eq p (i .0) (and-l (eqb p (i .0)) (has q (keys is)) u) in
+            let l : p < suc (i .0) = omega arith in
+            asc-miss (suc (i .0)) p is (a .1) l (before-has p q is v)
 
-      go : At p q i j → Settled p q E
-      go (fore x y) b z = at-pair i j (some v) e r n b (let u : edge i j E ≡ some (some b) = rw (x, y) at z in u)
-      go (back x y) b z = at-back i j (some v) e r n b (let u : edge j i E ≡ some (some b) = rw (x, y) at z in u)
-      go (off x y) b z = s b (sym (link-off p q i j (edgeRun t C i j ch v) e x y) ∙ z)
+  -- ---- both ends
+  settle-twins : (i j : ℕ) (o : Option (Option ℕ)) (E : Edges) → Twins E → Twins (settleAt t C i j ch o E)
+  settle-twins i j none E tw = tw
+  settle-twins i j (some v) E tw = twins-link i j (edgeRun t C i j ch v) E tw
 
-  -- ---- one point with all after it
-  row-net : (i : ℕ) (js : Points) (e : Edges) → Net (Due C ch) B e → Net (Due C ch) B (settleRow t C i ch js e)
+  row-twins : (i : ℕ) (js : Points) (E : Edges) → Twins E → Twins (settleRow t C i ch js E)
   unfolding settleRow
-  row-net i [] e n = n
-  row-net i (j ∷ js) e n = row-net i js (settle i (j .0) e) (at-net i (j .0) (edge i (j .0) e) e refl n)
+  row-twins i [] E tw = tw
+  row-twins i (j ∷ js) E tw = row-twins i js (settle i (j .0) E) (settle-twins i (j .0) (edge i (j .0) E) E tw)
 
-  row-some : (i : ℕ) (js : Points) (e : Edges) (p q : ℕ) → T (isSome (edge p q e)) → T (isSome (edge p q (settleRow t C i ch js e)))
-  unfolding settleRow
-  row-some i [] e p q u = u
-  row-some i (j ∷ js) e p q u = row-some i js (settle i (j .0) e) p q (at-some i (j .0) (edge i (j .0) e) e p q u)
-
-  row-stay : (i : ℕ) (js : Points) (e : Edges) → Net (Due C ch) B e → (p q : ℕ) → Settled p q e → Settled p q (settleRow t C i ch js e)
-  unfolding settleRow
-  row-stay i [] e n p q s = s
-  row-stay i (j ∷ js) e n p q s = row-stay i js (settle i (j .0) e) (at-net i (j .0) (edge i (j .0) e) e refl n) p q (at-stay i (j .0) (edge i (j .0) e) e refl n p q s)
-
-  row-done : (i : ℕ) (js : Points) (e : Edges) → Net (Due C ch) B e → (q : ℕ) → T (has q (keys js)) → Settled i q (settleRow t C i ch js e)
-  unfolding settleRow keys has
-  row-done i [] e n q u = absurd u
-  row-done i (j ∷ js) e n q u = go (ℕ-discrete q (j .0)) (Or (eqb q (j .0)) (has q (keys js)) u) (row-done i js (settle i (j .0) e) m q)
-    where
-      m : Net (Due C ch) B (settle i (j .0) e)
-      m = at-net i (j .0) (edge i (j .0) e) e refl n
-
-      go : Dec (q ≡ j .0) → T (eqb q (j .0)) ⊎ T (has q (keys js)) → (T (has q (keys js)) → Settled i q (settleRow t C i ch js (settle i (j .0) e)))
-          → Settled i q (settleRow t C i ch js (settle i (j .0) e))
-      go (yes x) d ih = row-stay i js (settle i (j .0) e) m i q (subst (λ (z : ℕ). Settled i z (settle i (j .0) e)) (sym x) (at-pair i (j .0) (edge i (j .0) e) e refl n))
-      go (no x) (inl v) ih = absurd (x (eqb→eq q (j .0) v))
-      go (no x) (inr v) ih = ih v
-
-  -- ---- all
-  all-net : (is : Points) (e : Edges) → Net (Due C ch) B e → Net (Due C ch) B (settleAll t C ch is e)
+  all-twins : (is : Points) (E : Edges) → Twins E → Twins (settleAll t C ch is E)
   unfolding settleAll
-  all-net [] e n = n
-  all-net (i ∷ is) e n = all-net is (settleRow t C (i .0) ch is e) (row-net (i .0) is e n)
+  all-twins [] E tw = tw
+  all-twins (i ∷ is) E tw = all-twins is (settleRow t C (i .0) ch is E) (row-twins (i .0) is E tw)
 
-  all-some : (is : Points) (e : Edges) (p q : ℕ) → T (isSome (edge p q e)) → T (isSome (edge p q (settleAll t C ch is e)))
-  unfolding settleAll
-  all-some [] e p q u = u
-  all-some (i ∷ is) e p q u = all-some is (settleRow t C (i .0) ch is e) p q (row-some (i .0) is e p q u)
+-- ---- the phase
+pub phase4-twins : (t : Tests) (C : List ℕ) (ch : Batch) (ps : Points) (E : Edges) → Twins E → Twins (phase4 t C ch ps E)
+unfolding phase4
+phase4-twins t C [] ps E tw = tw
+phase4-twins t C (c ∷ ch) ps E tw = all-twins t C (c ∷ ch) ps E tw
 
-  all-stay : (is : Points) (e : Edges) → Net (Due C ch) B e → (p q : ℕ) → Settled p q e → Settled p q (settleAll t C ch is e)
-  unfolding settleAll
-  all-stay [] e n p q s = s
-  all-stay (i ∷ is) e n p q s = all-stay is (settleRow t C (i .0) ch is e) (row-net (i .0) is e n) p q (row-stay (i .0) is e n p q s)
+-- only what is there is changed
+map-where : {A : Type 0} (g : A → A) (s : Bool) (o : Option A) → (T (isSome o) → T s) → cond s (Option·map g o) o ≡ Option·map g o
+map-where g true o f = refl
+map-where g false none f = refl
+map-where g false (some a) f = absurd (f tt)
 
-  settled-back : (p q : ℕ) (e : Edges) → Twins e → Settled p q e → Settled q p e
-  settled-back p q e tw s b r = s b (tw p q ∙ r)
+-- Every pair of two points has, from its lesser to its greater cell, its blocker's run over the changes.
+pub phase4-run : (t : Tests) (C : List ℕ) (ch : Batch) (ps : Points) → Asc 0 ps → (E : Edges) (p q : ℕ) → p ≤ q
+    → (T (isSome (edge p q E)) → (p ≢ q) × T (has p (keys ps)) × T (has q (keys ps))) → edge p q (phase4 t C ch ps E) ≡ Option·map (edgeRun t C p q ch) (edge p q E)
+unfolding phase4 edgeRun
+phase4-run t C [] ps a E p q l f = same (edge p q E)
+  where
+    same : (o : Option (Option ℕ)) → o ≡ Option·map (λ (b : Option ℕ). b) o
+    same none = refl
+    same (some b) = refl
+phase4-run t C (c ∷ ch) ps a E p q l f = all-at t C (c ∷ ch) p q l ps 0 a E ∙ map-where (edgeRun t C p q (c ∷ ch)) (before p q ps) (edge p q E) listed
+  where
+    listed : T (isSome (edge p q E)) → T (before p q ps)
+    listed u = let x = f u in let n = x .0 in let h : p < q = omega arith in before-yes p q 0 ps a h (x .1) (x .2)
 
-  all-done : (is : Points) (e : Edges) → Net (Due C ch) B e → (p q : ℕ) → p ≢ q → T (has p (keys is)) → T (has q (keys is)) → Settled p q (settleAll t C ch is e)
-  unfolding settleAll keys has
-  all-done [] e n p q h u v = absurd u
-  all-done (i ∷ is) e n p q h u v =
-      go (ℕ-discrete p (i .0)) (ℕ-discrete q (i .0)) (Or (eqb p (i .0)) (has p (keys is)) u) (Or (eqb q (i .0)) (has q (keys is)) v)
-      (all-done is (settleRow t C (i .0) ch is e) (row-net (i .0) is e n) p q h)
-    where
-      E : Edges
-      E = settleRow t C (i .0) ch is e
-
-      m : Net (Due C ch) B E
-      m = row-net (i .0) is e n
-
-      go : Dec (p ≡ i .0) → Dec (q ≡ i .0) → T (eqb p (i .0)) ⊎ T (has p (keys is)) → T (eqb q (i .0)) ⊎ T (has q (keys is))
-          → (T (has p (keys is)) → T (has q (keys is)) → Settled p q (settleAll t C ch is E)) → Settled p q (settleAll t C ch is E)
-      go (yes x) (yes y) a c ih = absurd (h (x ∙ sym y))
-      go (yes x) (no y) a (inl c) ih = absurd (y (eqb→eq q (i .0) c))
-      go (yes x) (no y) a (inr c) ih = all-stay is E m p q (subst (λ (z : ℕ). Settled z q E) (sym x) (row-done (i .0) is e n q c))
-      go (no x) (yes y) (inl a) c ih = absurd (x (eqb→eq p (i .0) a))
-      go (no x) (yes y) (inr a) c ih =
-          all-stay is E m p q (settled-back q p E (m .twins) (subst (λ (z : ℕ). Settled z p E) (sym y) (row-done (i .0) is e n p a)))
-      go (no x) (no y) (inl a) c ih = absurd (x (eqb→eq p (i .0) a))
-      go (no x) (no y) (inr a) (inl c) ih = absurd (y (eqb→eq q (i .0) c))
-      go (no x) (no y) (inr a) (inr c) ih = ih a c
-
-  -- ---- the phase: every pair of the points is settled
-  pub phase4-net : (ps : Points) (e : Edges) → Net (Due C ch) B e → ((p q : ℕ) → Joined B p q → T (has p (keys ps)) × T (has q (keys ps))) → Net (λ b. T (has b C)) B (settleAll t C ch ps e)
-  phase4-net ps e n f =
-      let m = all-net ps e n in
-      record {
-        twins = m .twins;
-        sound = m .sound;
-        holds = λ p q b r. let J = m .sound p q (rw r tt) in all-done ps e n p q (J .differ) (f p q J .0) (f p q J .1) b r;
-      }
-
-  pub phase4-some : (ps : Points) (e : Edges) (p q : ℕ) → T (isSome (edge p q e)) → T (isSome (edge p q (settleAll t C ch ps e)))
-  phase4-some = all-some
+-- So has every pair, whichever way it is read.
+pub phase4-get : (t : Tests) (C : List ℕ) (ch : Batch) (ps : Points) → Asc 0 ps → (E : Edges) → Twins E
+    → ((p q : ℕ) → T (isSome (edge p q E)) → (p ≢ q) × T (has p (keys ps)) × T (has q (keys ps)))
+    → (p q : ℕ) → (i : ℕ) × (j : ℕ) × (edge p q (phase4 t C ch ps E) ≡ Option·map (edgeRun t C i j ch) (edge p q E))
+phase4-get t C ch ps a E tw f p q = go (lt-or-ge q p)
+  where
+    go : (q < p) ⊎ (p ≤ q) → (i : ℕ) × (j : ℕ) × (edge p q (phase4 t C ch ps E) ≡ Option·map (edgeRun t C i j ch) (edge p q E))
+    go (inl h) =
+        let l : q ≤ p = omega arith in
+        (q, p, phase4-twins t C ch ps E tw p q ∙ phase4-run t C ch ps a E q p l (f q p) ∙ ap (Option·map (edgeRun t C q p ch)) (tw q p))
+    go (inr h) = (p, q, phase4-run t C ch ps a E p q h (f p q))

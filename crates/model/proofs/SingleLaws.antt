@@ -2,7 +2,7 @@
 use Prim.Native.Nat.{ℕ, suc, _+_, _≤_, _<_, zero-le}
 use native.Mathlib.Omega.{arith}
 use mathlib.Core.Path.{_≡_, refl, ap}
-use mathlib.Core.Logic.{_⊎_, inl, inr}
+use mathlib.Core.Logic.{_⊎_, ⊎-elim}
 use mathlib.Core.Bool.{Bool, true, false, cond, _||_}
 use mathlib.Core.List.{List, [], _∷_, _++_}
 use lib.Dec.{T, eqb, eqb-refl}
@@ -63,8 +63,5 @@ single-length (x ∷ a) b s f =
 
 -- One whose members are all of two lists is no longer than both together.
 pub single-two : (a b c : List ℕ) → Single a → ((x : ℕ) → T (has x a) → T (has x b) ⊎ T (has x c)) → length a ≤ length b + length c
-single-two a b c s f = rw (← length-append b c) (single-length a (b ++ c) s (λ x t. rw (has-append x b c) (go x (f x t))))
-  where
-    go : (x : ℕ) → T (has x b) ⊎ T (has x c) → T (has x b || has x c)
-    go x (inl u) = or-left (has x b) (has x c) u
-    go x (inr u) = or-right (has x b) (has x c) u
+single-two a b c s f =
+    rw (← length-append b c) (single-length a (b ++ c) s (λ x t. rw (has-append x b c) (⊎-elim (or-left (has x b) (has x c)) (or-right (has x b) (has x c)) (f x t))))

@@ -89,6 +89,10 @@ pub record Work : Type 0 where
   pub edges : Edges
   pub queue : List ℕ
 
+-- where an update starts
+abbrev pub started : Layer → Work
+started l = record { points = l .points; edges = l .edges; queue = [] }
+
 module _ (t : Tests) (C : List ℕ) where
   -- a set bit at k, by what stands there: a new point takes the first cell of its square test
   unfoldable pub raise : Dir → ℕ → Option Point → Work → Work
@@ -176,9 +180,6 @@ module _ (t : Tests) (C : List ℕ) where
   phase4 (c ∷ ch) ps e = settleAll (c ∷ ch) ps e
 
   -- ---- the whole: the confirmed changes ch and the corners cs, over the cells C as they are afterwards
-  abbrev pub started : Layer → Work
-  started l = record { points = l .points; edges = l .edges; queue = [] }
-
   unfoldable pub update : Batch → List (ℕ × Bits) → Layer → Layer
   update ch cs l =
       let w = markAll (marks (t .shift) cs) (started l) in
