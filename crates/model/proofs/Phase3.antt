@@ -8,6 +8,7 @@ use mathlib.Core.List.{List, [], _∷_}
 use mathlib.Core.Option.{Option, none, some}
 use lib.Dec.{T, T-not, not-T, eqb, eqb→eq}
 use lib.Ieee.Fits.{and-i, and-l, and-r}
+use Rattle.ieee.proofs.Tools.{same-test}
 use Rattle.model.specs.Maps.{get, keys, isSome, has}
 use Rattle.model.specs.Corner.{Bits, anyBit, sees}
 use Rattle.model.specs.Layer.{Tests, Point, Points, Edges, edge, link, wanted, connect, connectAt, phase3}
@@ -30,13 +31,9 @@ apart-joined B p q u =
 pub joined-apart : (B : ℕ → Bits) (p q : ℕ) → Joined B p q → T (apart B p q)
 joined-apart B p q J = and-i (not (eqb p q)) (joins B p q) (not-T (eqb p q) (λ u. J .differ (eqb→eq p q u))) (joined-joins B p q J)
 
-same-T : (a b : Bool) → (T a → T b) → (T b → T a) → a ≡ b
-same-T true b f g = sym (T→true b (f tt))
-same-T false b f g = sym (notT→false b g)
-
 apart-turn : (B : ℕ → Bits) (p q : ℕ) → apart B p q ≡ apart B q p
 apart-turn B p q =
-    same-T (apart B p q) (apart B q p) (λ u. joined-apart B q p (swap (apart-joined B p q u))) (λ u. joined-apart B p q (swap (apart-joined B q p u)))
+    same-test (apart B p q) (apart B q p) (λ u. joined-apart B q p (swap (apart-joined B p q u))) (λ u. joined-apart B p q (swap (apart-joined B q p u)))
 
 -- ---- the pair that is there, or else the new one
 abbrev pub grow : Option (Option ℕ) → Option (Option ℕ) → Option (Option ℕ)
