@@ -5,7 +5,7 @@ use oracle::occupancy::{Cell, Grid, Point, SparseGrid, Visibility};
 use oracle::Random;
 use std::collections::BTreeMap;
 
-const HEAD: &str = include_str!("model_claims.antt");
+const HEAD: &str = include_str!("model_claims.txt");
 
 /// The number that the tables hold for a cell.
 fn key(c: &Cell) -> u64 {
