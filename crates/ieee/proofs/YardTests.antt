@@ -4,7 +4,7 @@ use mathlib.Core.Logic.{_⊎_, inl, inr}
 use Prim.Native.Nat.{ℕ, zero, suc, _+_, _-_, _*_, _/_, _^_, _≤_, _<_, min}
 use native.Mathlib.Nat.{le-trans, le-of-eq, mul-one, one-mul, zero-mul, mul-comm, mul-right-comm, mul-pos, mul-le-mul-right, le-of-mul-le-mul-right, zero-lt-suc, div-one}
 use native.Mathlib.Omega.{arith}
-use mathlib.Core.Bool.{Bool, true, false, _&&_, _||_, true≢false}
+use mathlib.Core.Bool.{Bool, true, false, _&&_, true≢false}
 use lib.IntN.{ℤ, pos}
 use lib.Signed.{leZ}
 use lib.Dec.{T, ltb, eqb, lt→ltb, leb→le, eqb→eq, lit≤, lit<}
@@ -18,7 +18,7 @@ use borrow.Author.Tests.{ltb-true, ltb-false, lt-leb}
 use Rattle.ieee.specs.Constants.{nought, half, pow2}
 use Rattle.ieee.specs.Whole.{ceilDiv, ceilZ, floorF}
 use Rattle.ieee.specs.Yard.{shiftF, isPower, isWhole, inYard, wholeN, shiftN}
-use Rattle.ieee.proofs.Tools.{T-true}
+use Rattle.ieee.proofs.Tools.{T-true, or-cases}
 use Rattle.ieee.proofs.Floor.{cut-exact}
 use Rattle.ieee.proofs.Dyadic.{Is, is-half, is-lift, is-shift, is-add, is-div}
 use Rattle.ieee.proofs.DyadicWhole.{ceil-nat}
@@ -26,10 +26,6 @@ use Rattle.ieee.proofs.Integers.{ceil-rest}
 use Rattle.ieee.proofs.Compare.{eq-whole, both-pos, quot-iff, ceil-at-most, round-number, sum-number}
 
 -- ---- the cell size: a float that equals 2 ^ k is 2 ^ k
-or-cases : (a b : Bool) → T (a || b) → T a ⊎ T b
-or-cases true b t = inl tt
-or-cases false b t = inr t
-
 pow-value : (k : ℕ) → HasValue (pow2 k) false (2 ^ k) 1
 pow-value k = (refl, ap (λ (x : ℕ). x * 1) (one-mul (2 ^ k)))
 

@@ -7,10 +7,11 @@ use mathlib.Core.Logic.{_≢_, _⊎_, inl, inr}
 use mathlib.Core.Bool.{Bool, true, false, not, cond, _&&_, _||_, Bool·beq, true≢false}
 use mathlib.Core.List.{List, [], _∷_}
 use lib.Dec.{T, eqb, eqb-refl}
+use Rattle.ieee.proofs.Tools.{or-cases}
 use Rattle.model.specs.Maps.{keys, has, Asc, AscL}
 use Rattle.model.specs.Batch.{Batch, write, cellsAfter, confirmed}
 use Rattle.model.specs.Demand3.{lastWord}
-use Rattle.model.proofs.MapLaws.{eqb-yes, eqb-no, true→T, Or, or-left, or-right, has-add-same, has-add-other, has-cut-same, has-cut-other, beq-same}
+use Rattle.model.proofs.MapLaws.{eqb-yes, eqb-no, true→T, or-left, or-right, has-add-same, has-add-other, has-cut-same, has-cut-other, beq-same}
 use Rattle.model.proofs.OrderLaws.{ascL-add, ascL-cut}
 
 -- ---- one write
@@ -107,7 +108,7 @@ confirmed-keys (e ∷ b) C x u = go (Bool·beq (has (e .0) C) (e .1)) u (confirm
 
     go : (s : Bool) → T (has x (keys (cond s (confirmed b D) (e ∷ confirmed b D)))) → (T (has x (keys (confirmed b D))) → T (has x (keys b))) → T (eqb x (e .0) || has x (keys b))
     go true v r = or-right (eqb x (e .0)) (has x (keys b)) (r v)
-    go false v r = step (Or (eqb x (e .0)) (has x (keys (confirmed b D))) v) r
+    go false v r = step (or-cases (eqb x (e .0)) (has x (keys (confirmed b D))) v) r
 
 -- a cell that the changes free
 unfoldable pub freed : ℕ → Batch → Bool

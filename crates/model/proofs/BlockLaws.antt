@@ -8,10 +8,11 @@ use mathlib.Core.Bool.{Bool, true, false, not, cond, _||_}
 use mathlib.Core.List.{List, [], _∷_, _++_}
 use lib.Dec.{T, eqb, eqb→eq, eqb-refl, T-not}
 use lib.ListN.{length, getD}
+use Rattle.ieee.proofs.Tools.{or-cases}
 use Rattle.model.specs.Maps.{has, sift, AscL}
 use Rattle.model.specs.Cell.{col, row, apart}
 use Rattle.model.specs.Blocks.{adjacent, Linked, here, on, touches, union, joinCell, blocksOf}
-use Rattle.model.proofs.MapLaws.{T→true, Or, or-left, or-right, has-append}
+use Rattle.model.proofs.MapLaws.{T→true, or-left, or-right, has-append}
 
 -- ---- adjacency: all that is used of it
 adjacent-sym : (a b : ℕ) → adjacent a b ≡ adjacent b a
@@ -31,7 +32,7 @@ has-later j k l u = or-right (eqb j k) (has j l) u
 
 has-cases : (j k : ℕ) (l : List ℕ) → T (has j (k ∷ l)) → (j ≡ k) ⊎ T (has j l)
 unfolding has
-has-cases j k l u = ⊎-elim (λ e. inl (eqb→eq j k e)) inr (Or (eqb j k) (has j l) u)
+has-cases j k l u = ⊎-elim (λ e. inl (eqb→eq j k e)) inr (or-cases (eqb j k) (has j l) u)
 
 touches-into : (k j : ℕ) (b : List ℕ) → T (has j b) → T (adjacent k j) → T (touches k b)
 unfolding touches has
@@ -43,7 +44,7 @@ touches-out : (k : ℕ) (b : List ℕ) → T (touches k b) → (j : ℕ) × T (h
 unfolding touches has
 touches-out k [] t = absurd t
 touches-out k (x ∷ b) t =
-    ⊎-elim (λ s. (x, has-first x b, s)) (λ v. let r = touches-out k b v in (r .0, has-later (r .0) x b (r .1), r .2)) (Or (adjacent k x) (touches k b) t)
+    ⊎-elim (λ s. (x, has-first x b, s)) (λ v. let r = touches-out k b v in (r .0, has-later (r .0) x b (r .1), r .2)) (or-cases (adjacent k x) (touches k b) t)
 
 -- ---- links
 -- A link ends at an occupied cell.
@@ -80,7 +81,7 @@ pub union-out : (l : ℕ) (bs : List (List ℕ)) → T (has l (union bs)) → (i
 unfolding union has
 union-out l [] u = absurd u
 union-out l (b ∷ bs) u =
-    ⊎-elim (λ v. (0, suc-le-suc zero-le, v)) (λ v. let r = union-out l bs v in (suc (r .0), suc-le-suc (r .1), r .2)) (Or (has l b) (has l (union bs)) (rw (has-append l b (union bs)) at u))
+    ⊎-elim (λ v. (0, suc-le-suc zero-le, v)) (λ v. let r = union-out l bs v in (suc (r .0), suc-le-suc (r .1), r .2)) (or-cases (has l b) (has l (union bs)) (rw (has-append l b (union bs)) at u))
 
 sift-each : (P : List ℕ → Type 0) (p : List ℕ → Bool) (bs : List (List ℕ)) → ((i : ℕ) → i < length bs → P (getD bs i []))
     → (i : ℕ) → i < length (sift p bs) → P (getD (sift p bs) i []) × T (p (getD (sift p bs) i []))

@@ -10,13 +10,14 @@ use mathlib.Core.Bool.{Bool, true, false, cond, _&&_, _||_, Bool·beq}
 use mathlib.Core.List.{List, [], _∷_}
 use lib.Dec.{T, eqb, eqb→eq, eqb-refl, lit<}
 use lib.ListN.{length, getD}
+use Rattle.ieee.proofs.Tools.{or-cases}
 use Rattle.model.specs.Maps.{keys, has}
 use Rattle.model.specs.Cell.{W, Dir, SW, SE, NW, NE, move, sideX, sideY, around}
 use Rattle.model.specs.Corner.{Bits, zero4, anyBit, sameBits, corner, statusOf, cornersAmong, cornerCells}
 use Rattle.model.specs.Batch.{Batch, altered, met, cornerChanges}
 use Rattle.model.specs.Limits.{maxCoordinate}
 use Rattle.model.specs.Good.{Inside}
-use Rattle.model.proofs.MapLaws.{true→T, Or, or-left, or-right, has-append, decT, beq-same}
+use Rattle.model.proofs.MapLaws.{true→T, or-left, or-right, has-append, decT, beq-same}
 use Rattle.model.proofs.BitLaws.{no-bit}
 
 -- far enough from the lower border of the keys for a shift of 64, and for a neighbour's too
@@ -46,7 +47,7 @@ All P (x ∷ l) = P x × All P l
 all-has : (P : ℕ → Type 0) (l : List ℕ) → All P l → (b : ℕ) → T (has b l) → P b
 unfolding has
 all-has P [] a b t = absurd t
-all-has P (x ∷ l) a b t = go (ℕ-discrete b x) (Or (eqb b x) (has b l) t) (all-has P l (a .1) b)
+all-has P (x ∷ l) a b t = go (ℕ-discrete b x) (or-cases (eqb b x) (has b l) t) (all-has P l (a .1) b)
   where
     go : Dec (b ≡ x) → T (eqb b x) ⊎ T (has b l) → (T (has b l) → P b) → P b
     go (yes e) d ih = rw e (a .0)
@@ -57,7 +58,7 @@ all-has P (x ∷ l) a b t = go (ℕ-discrete b x) (Or (eqb b x) (has b l) t) (al
 met-has : (ch : Batch) (b x : ℕ) → T (has x (keys ch)) → T (has b (around x)) → T (has b (met ch))
 unfolding met has keys
 met-has [] b x t u = absurd t
-met-has (e ∷ ch) b x t u = rw (has-append b (around (e .0)) (met ch)) (go (ℕ-discrete x (e .0)) (Or (eqb x (e .0)) (has x (keys ch)) t) (λ s. met-has ch b x s u))
+met-has (e ∷ ch) b x t u = rw (has-append b (around (e .0)) (met ch)) (go (ℕ-discrete x (e .0)) (or-cases (eqb x (e .0)) (has x (keys ch)) t) (λ s. met-has ch b x s u))
   where
     go : Dec (x ≡ e .0) → T (eqb x (e .0)) ⊎ T (has x (keys ch)) → (T (has x (keys ch)) → T (has b (met ch))) → T (has b (around (e .0)) || has b (met ch))
     go (yes h) d ih = or-left (has b (around (e .0))) (has b (met ch)) (subst (λ (z : ℕ). T (has b (around z))) h u)
@@ -70,7 +71,7 @@ nine x h = omega arith
 met-safe : (ch : Batch) → ((x : ℕ) → T (has x (keys ch)) → Inside maxCoordinate x) → (b : ℕ) → T (has b (met ch)) → Safe b
 unfolding met has keys
 met-safe [] d b t = absurd t
-met-safe (e ∷ ch) d b t = go (Or (has b (around (e .0))) (has b (met ch)) (rw (has-append b (around (e .0)) (met ch)) at t)) (met-safe ch (λ x u. d x (or-right (eqb x (e .0)) (has x (keys ch)) u)) b)
+met-safe (e ∷ ch) d b t = go (or-cases (has b (around (e .0))) (has b (met ch)) (rw (has-append b (around (e .0)) (met ch)) at t)) (met-safe ch (λ x u. d x (or-right (eqb x (e .0)) (has x (keys ch)) u)) b)
   where
     deep : Deep (e .0)
     deep = inside-deep (e .0) (d (e .0) (or-left (eqb (e .0) (e .0)) (has (e .0) (keys ch)) (eqb-refl (e .0))))
@@ -166,7 +167,7 @@ altered-has C C′ done (k ∷ l) b t n = go (ℕ-discrete b k) (altered-has C C
 
     here : b ≡ k → (s : Bool) → has k done || sameBits (statusOf C k) (statusOf C′ k) ≡ s → T (has b (keys (cond s rest ((k, statusOf C′ k) ∷ rest)))) ⊎ (statusOf C b ≡ statusOf C′ b)
     here e false q = inl (or-left (eqb b k) (has b (keys rest)) (rw e (eqb-refl k)))
-    here e true q = inr (rw e (same-bits (statusOf C k) (statusOf C′ k) (old (Or (has k done) (sameBits (statusOf C k) (statusOf C′ k)) (true→T (has k done || sameBits (statusOf C k) (statusOf C′ k)) q)))))
+    here e true q = inr (rw e (same-bits (statusOf C k) (statusOf C′ k) (old (or-cases (has k done) (sameBits (statusOf C k) (statusOf C′ k)) (true→T (has k done || sameBits (statusOf C k) (statusOf C′ k)) q)))))
       where
         old : T (has k done) ⊎ T (sameBits (statusOf C k) (statusOf C′ k)) → T (sameBits (statusOf C k) (statusOf C′ k))
         old (inl u) = absurd (n (rw e u))
@@ -177,7 +178,7 @@ altered-has C C′ done (k ∷ l) b t n = go (ℕ-discrete b k) (altered-has C C
     inner h (inr u) = u
 
     fresh : b ≢ k → T (eqb b k || has b done) → ⊥
-    fresh h u = back (Or (eqb b k) (has b done) u)
+    fresh h u = back (or-cases (eqb b k) (has b done) u)
       where
         back : T (eqb b k) ⊎ T (has b done) → ⊥
         back (inl z) = h (eqb→eq b k z)
@@ -186,7 +187,7 @@ altered-has C C′ done (k ∷ l) b t n = go (ℕ-discrete b k) (altered-has C C
     go : Dec (b ≡ k) → (T (has b l) → (T (has b (k ∷ done)) → ⊥) → T (has b (keys rest)) ⊎ (statusOf C b ≡ statusOf C′ b))
         → T (has b (keys (cond (has k done || sameBits (statusOf C k) (statusOf C′ k)) rest ((k, statusOf C′ k) ∷ rest)))) ⊎ (statusOf C b ≡ statusOf C′ b)
     go (yes e) ih = here e (has k done || sameBits (statusOf C k) (statusOf C′ k)) refl
-    go (no h) ih = deeper (has k done || sameBits (statusOf C k) (statusOf C′ k)) (ih (inner h (Or (eqb b k) (has b l) t)) (fresh h))
+    go (no h) ih = deeper (has k done || sameBits (statusOf C k) (statusOf C′ k)) (ih (inner h (or-cases (eqb b k) (has b l) t)) (fresh h))
 
 -- ---- both facts of the corner changes
 module _ (C C′ : List ℕ) (ch : Batch) (kept : (x : ℕ) → T (has x (keys ch)) ⊎ (has x C′ ≡ has x C)) (inside : (x : ℕ) → T (has x (keys ch)) → Inside maxCoordinate x) where
@@ -219,7 +220,7 @@ corners-fits C (k ∷ l) f = go (anyBit (statusOf C k)) (corners-fits C l (λ x 
 corners-in : (C l : List ℕ) (b : ℕ) → T (has b l) → T (has b (keys (cornersAmong C l))) ⊎ (statusOf C b ≡ zero4)
 unfolding cornersAmong has keys
 corners-in C [] b t = absurd t
-corners-in C (k ∷ l) b t = go (ℕ-discrete b k) (Or (eqb b k) (has b l) t) (anyBit (statusOf C k)) refl (corners-in C l b)
+corners-in C (k ∷ l) b t = go (ℕ-discrete b k) (or-cases (eqb b k) (has b l) t) (anyBit (statusOf C k)) refl (corners-in C l b)
   where
     rest : List (ℕ × Bits)
     rest = cornersAmong C l

@@ -8,10 +8,11 @@ use mathlib.Core.List.{List, [], _∷_}
 use mathlib.Core.Option.{Option, none, some, Option·map, Option·none-ne-some}
 use lib.Dec.{T, eqb, not-T, eqb→eq}
 use lib.Ieee.Fits.{and-i, and-l, and-r}
+use Rattle.ieee.proofs.Tools.{or-cases}
 use Rattle.model.specs.Maps.{get, put, del, keys, isSome, has}
 use Rattle.model.specs.Corner.{Bits, sees}
 use Rattle.model.specs.Layer.{Edges, line, edge, tie, untie, link, hide, erase}
-use Rattle.model.proofs.MapLaws.{notT→false, decT, eqb-yes, eqb-no, Or, or-left, or-right, get-put-same, get-put-other, get-del-same, get-del-other, keys-has}
+use Rattle.model.proofs.MapLaws.{notT→false, decT, eqb-yes, eqb-no, or-left, or-right, get-put-same, get-put-other, get-del-same, get-del-other, keys-has}
 
 -- ---- choices, and options
 pub cond-ap : {A B : Type 0} (f : A → B) (s : Bool) (x y : A) → f (cond s x y) ≡ cond s (f x) (f y)
@@ -120,7 +121,7 @@ pub hits-back : (p q : ℕ) → T (hits q p p q)
 hits-back p q = rw (hits-turn q p p q) (hits-fore p q)
 
 pub hits-either : (a b p q : ℕ) → T (hits a b p q) → ((a ≡ p) × (b ≡ q)) ⊎ ((a ≡ q) × (b ≡ p))
-hits-either a b p q t = ⊎-elim (λ s. inl (both a p b q s)) (λ s. inr (both a q b p s)) (Or (eqb a p && eqb b q) (eqb a q && eqb b p) t)
+hits-either a b p q t = ⊎-elim (λ s. inl (both a p b q s)) (λ s. inr (both a q b p s)) (or-cases (eqb a p && eqb b q) (eqb a q && eqb b p) t)
   where
     both : (x y u v : ℕ) → T (eqb x y && eqb u v) → (x ≡ y) × (u ≡ v)
     both x y u v s = (eqb→eq x y (and-l (eqb x y) (eqb u v) s), eqb→eq u v (and-r (eqb x y) (eqb u v) s))
@@ -162,7 +163,7 @@ module _ (a c k : ℕ) (b : Bits) where
   hid-yes x h n (o ∷ os) u =
       let now = and-i (not (sees x k b)) (hits a c k x) (not-T (sees x k b) n) h in
       ⊎-elim (λ y. or-left (not (sees o k b) && hits a c k o) (hid os) (rw (eqb→eq x o y) at now))
-      (λ y. or-right (not (sees o k b) && hits a c k o) (hid os) (hid-yes x h n os y)) (Or (eqb x o) (has x os) u)
+      (λ y. or-right (not (sees o k b) && hits a c k o) (hid os) (hid-yes x h n os y)) (or-cases (eqb x o) (has x os) u)
 
   -- of the pairs of k those stay whose other end is seen: so a pair stays under s, if s says so of one that is there
   pub hide-left : (e : Edges) → Twins e → (s : Bool) → (T s → (x : ℕ) → T (hits a c k x) → T (sees x k b))

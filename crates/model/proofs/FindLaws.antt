@@ -6,8 +6,9 @@ use mathlib.Core.Bool.{Bool, true, false, cond, _||_}
 use mathlib.Core.List.{List, [], _∷_}
 use mathlib.Core.Option.{none, some, Option·none-ne-some, Option·some-ne-none, Option·some-injective}
 use lib.Dec.{T, eqb, eqb→eq, eqb-refl}
+use Rattle.ieee.proofs.Tools.{or-cases}
 use Rattle.model.specs.Maps.{has, find}
-use Rattle.model.proofs.MapLaws.{true→T, Or, or-left, or-right}
+use Rattle.model.proofs.MapLaws.{true→T, or-left, or-right}
 
 -- two tests that agree on the members find the same
 pub find-same : (p q : ℕ → Bool) (l : List ℕ) → ((x : ℕ) → T (has x l) → p x ≡ q x) → find p l ≡ find q l
@@ -40,7 +41,7 @@ find-passes p (x ∷ l) k e = go (p x) refl e (find-passes p l k)
 pub find-none : (p : ℕ → Bool) (l : List ℕ) → find p l ≡ none → (c : ℕ) → T (has c l) → T (p c) → ⊥
 unfolding find has
 find-none p [] e c h t = h
-find-none p (x ∷ l) e c h t = go (p x) refl e (Or (eqb c x) (has c l) h) (λ q g. find-none p l q c g t)
+find-none p (x ∷ l) e c h t = go (p x) refl e (or-cases (eqb c x) (has c l) h) (λ q g. find-none p l q c g t)
   where
     go : (b : Bool) → p x ≡ b → cond b (some x) (find p l) ≡ none → T (eqb c x) ⊎ T (has c l) → (find p l ≡ none → T (has c l) → ⊥) → ⊥
     go true q r d ih = Option·some-ne-none x r

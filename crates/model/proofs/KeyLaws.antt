@@ -10,12 +10,12 @@ use lib.Ieee.Fits.{and-l, and-r}
 use lib.Signed.{leZ, ltZ, mag}
 use Rattle.ieee.specs.Whole.{biased, unbias}
 use Rattle.ieee.proofs.Bias.{biased-lt, biased-unbias, unbias-biased}
+use Rattle.ieee.proofs.Tools.{or-cases}
 use Rattle.model.specs.Limits.{maxCoordinate, beyond}
 use Rattle.model.specs.Cell.{W, origin, col, row, xOf, yOf, key}
 use Rattle.model.specs.Good.{Inside}
 use Rattle.model.specs.Map.{Entry}
 use Rattle.model.specs.Refusal.{before}
-use Rattle.model.proofs.MapLaws.{Or}
 
 -- a coordinate within the bounds of a batch
 abbrev pub Near : ℤ → Type 0
@@ -54,7 +54,7 @@ pub record Fair (e : Entry) : Type 0 where
 
 pub key-lt : (a b : Entry) → Fair a → Fair b → T (before a b) → key (a .x) (a .y) < key (b .x) (b .y)
 unfolding key
-key-lt a b f g t = go (Or (ltZ (a .x) (b .x)) (leZ (a .x) (b .x) && ltZ (a .y) (b .y)) t)
+key-lt a b f g t = go (or-cases (ltZ (a .x) (b .x)) (leZ (a .x) (b .x) && ltZ (a .y) (b .y)) t)
   where
     first : (u v u′ v′ : ℕ) → v ≤ origin + maxCoordinate → u < u′ → u * W + v < u′ * W + v′
     first u v u′ v′ h l = omega arith

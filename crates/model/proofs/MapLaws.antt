@@ -1,11 +1,12 @@
 -- Laws of the maps and sets of specs/Maps.antt; none asks for an order. Assumes nothing.
 use Prim.Native.Nat.{ℕ}
-use mathlib.Core.Path.{_≡_, refl, sym, _∙_}
+use mathlib.Core.Path.{_≡_, refl, sym, ap, _∙_}
 use mathlib.Core.Logic.{_≢_, _⊎_, inl, inr}
-use mathlib.Core.Bool.{Bool, true, false, cond, _||_, Bool·beq, false≢true}
+use mathlib.Core.Bool.{Bool, true, false, cond, _||_, Bool·beq}
 use mathlib.Core.List.{List, [], _∷_, _++_}
 use mathlib.Core.Option.{none, some, Option·map}
 use lib.Dec.{T, eqb, ltb, eqb→eq, eqb-refl}
+use Rattle.ieee.proofs.Tools.{T-true}
 use Rattle.model.specs.Maps.{get, put, del, mapV, keys, isSome, has, add, cut}
 
 -- ---- Booleans
@@ -28,18 +29,13 @@ beq-same false true e = absurd e
 beq-same false false e = refl
 
 pub true→T : (b : Bool) → b ≡ true → T b
-true→T true e = tt
-true→T false e = absurd (false≢true e)
+true→T b e = T-true e
 
 pub eqb-yes : (n : ℕ) → eqb n n ≡ true
 eqb-yes n = T→true (eqb n n) (eqb-refl n)
 
 pub eqb-no : (m n : ℕ) → m ≢ n → eqb m n ≡ false
 eqb-no m n h = notT→false (eqb m n) (λ t. h (eqb→eq m n t))
-
-pub Or : (a b : Bool) → T (a || b) → T a ⊎ T b
-Or true b t = inl tt
-Or false b t = inr t
 
 pub or-left : (a b : Bool) → T a → T (a || b)
 or-left true b t = tt
@@ -109,44 +105,53 @@ module _ {A : Type 0} where
       go true ih = refl
       go false ih = ih
 
--- ---- sets
-pub has-add-same : (k : ℕ) (l : List ℕ) → has k (add k l) ≡ true
-unfolding has add
-has-add-same k [] = rw (eqb-yes k) refl
-has-add-same k (x ∷ l) = go (eqb k x) (ltb k x) refl (has-add-same k l)
+-- ---- a set is a map to nothing, so that its laws are those of maps
+unfoldable pub units : List ℕ → List (ℕ × Unit {0})
+units [] = []
+units (x ∷ l) = (x, tt) ∷ units l
+
+pub keys-units : (l : List ℕ) → keys (units l) ≡ l
+unfolding keys units
+keys-units [] = refl
+keys-units (x ∷ l) = ap (λ z. x ∷ z) (keys-units l)
+
+pub add-units : (k : ℕ) (l : List ℕ) → keys (put k tt (units l)) ≡ add k l
+unfolding keys units put add
+add-units k [] = refl
+add-units k (x ∷ l) = go (eqb k x) (ltb k x) (eqb→eq k x) (add-units k l)
   where
-    go : (b c : Bool) → eqb k x ≡ b → has k (add k l) ≡ true → has k (cond b (x ∷ l) (cond c (k ∷ x ∷ l) (x ∷ add k l))) ≡ true
-    go true c q ih = rw q refl
-    go false true q ih = rw (eqb-yes k) refl
-    go false false q ih = rw q ih
+    go : (b c : Bool) → (T b → k ≡ x) → keys (put k tt (units l)) ≡ add k l
+        → keys (cond b ((k, tt) ∷ units l) (cond c ((k, tt) ∷ (x, tt) ∷ units l) ((x, tt) ∷ put k tt (units l)))) ≡ cond b (x ∷ l) (cond c (k ∷ x ∷ l) (x ∷ add k l))
+    go true c q ih = rw (q tt, keys-units l) refl
+    go false true q ih = rw (keys-units l) refl
+    go false false q ih = ap (λ z. x ∷ z) ih
+
+pub cut-units : (k : ℕ) (l : List ℕ) → keys (del k (units l)) ≡ cut k l
+unfolding keys units del cut
+cut-units k [] = refl
+cut-units k (x ∷ l) = go (eqb k x) (cut-units k l)
+  where
+    go : (b : Bool) → keys (del k (units l)) ≡ cut k l → keys (cond b (del k (units l)) ((x, tt) ∷ del k (units l))) ≡ cond b (cut k l) (x ∷ cut k l)
+    go true ih = ih
+    go false ih = ap (λ z. x ∷ z) ih
+
+-- a member of the set that a map's keys are
+member : (k : ℕ) (m : List (ℕ × Unit {0})) (l : List ℕ) → keys m ≡ l → has k l ≡ isSome (get k m)
+member k m l e = ap (has k) (sym e) ∙ keys-has k m
+
+pub has-add-same : (k : ℕ) (l : List ℕ) → has k (add k l) ≡ true
+has-add-same k l = member k (put k tt (units l)) (add k l) (add-units k l) ∙ ap isSome (get-put-same k tt (units l))
 
 pub has-add-other : (j k : ℕ) (l : List ℕ) → j ≢ k → has j (add k l) ≡ has j l
-unfolding has add
-has-add-other j k [] h = rw (eqb-no j k h) refl
-has-add-other j k (x ∷ l) h = go (eqb k x) (ltb k x) (has-add-other j k l h)
-  where
-    go : (b c : Bool) → has j (add k l) ≡ has j l → has j (cond b (x ∷ l) (cond c (k ∷ x ∷ l) (x ∷ add k l))) ≡ has j (x ∷ l)
-    go true c ih = refl
-    go false true ih = rw (eqb-no j k h) refl
-    go false false ih = rw ih refl
+has-add-other j k l h =
+    member j (put k tt (units l)) (add k l) (add-units k l) ∙ ap isSome (get-put-other j k tt (units l) h) ∙ sym (member j (units l) l (keys-units l))
 
 pub has-cut-same : (k : ℕ) (l : List ℕ) → has k (cut k l) ≡ false
-unfolding has cut
-has-cut-same k [] = refl
-has-cut-same k (x ∷ l) = go (eqb k x) refl (has-cut-same k l)
-  where
-    go : (b : Bool) → eqb k x ≡ b → has k (cut k l) ≡ false → has k (cond b (cut k l) (x ∷ cut k l)) ≡ false
-    go true q ih = ih
-    go false q ih = rw q ih
+has-cut-same k l = member k (del k (units l)) (cut k l) (cut-units k l) ∙ ap isSome (get-del-same k (units l))
 
 pub has-cut-other : (j k : ℕ) (l : List ℕ) → j ≢ k → has j (cut k l) ≡ has j l
-unfolding has cut
-has-cut-other j k [] h = refl
-has-cut-other j k (x ∷ l) h = go (eqb k x) (λ t. eqb→eq k x t) (has-cut-other j k l h)
-  where
-    go : (b : Bool) → (T b → k ≡ x) → has j (cut k l) ≡ has j l → has j (cond b (cut k l) (x ∷ cut k l)) ≡ has j (x ∷ l)
-    go true q ih = rw (eqb-no j x (λ e. h (e ∙ sym (q tt)))) ih
-    go false q ih = rw ih refl
+has-cut-other j k l h =
+    member j (del k (units l)) (cut k l) (cut-units k l) ∙ ap isSome (get-del-other j k (units l) h) ∙ sym (member j (units l) l (keys-units l))
 
 pub has-append : (j : ℕ) (l m : List ℕ) → has j (l ++ m) ≡ has j l || has j m
 unfolding has

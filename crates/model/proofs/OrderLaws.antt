@@ -1,14 +1,14 @@
 -- What keeps entries, and cells, ascending. Assumes nothing.
 use Prim.Native.Nat.{ℕ, suc, _≤_, _<_}
 use native.Mathlib.Omega.{arith}
-use mathlib.Core.Path.{_≡_, refl, sym, ap, _∙_}
+use mathlib.Core.Path.{_≡_, refl, sym, ap, _∙_, subst}
 use mathlib.Core.Logic.{_≢_}
 use mathlib.Core.Bool.{Bool, true, false, cond, true≢false}
 use mathlib.Core.List.{List, [], _∷_}
 use mathlib.Core.Option.{none, some}
 use lib.Dec.{eqb, ltb, eqb→eq, ltb→lt, nltb→le}
-use Rattle.model.specs.Maps.{Asc, AscL, get, put, del, mapV, add, cut}
-use Rattle.model.proofs.MapLaws.{eqb-yes, eqb-no, true→T}
+use Rattle.model.specs.Maps.{Asc, AscL, get, put, del, mapV, add, cut, keys}
+use Rattle.model.proofs.MapLaws.{eqb-yes, eqb-no, true→T, units, add-units, cut-units}
 
 pub no-eqb : (m n : ℕ) → eqb m n ≡ false → m ≢ n
 no-eqb m n e h = true≢false (sym (eqb-yes m) ∙ ap (eqb m) h ∙ e)
@@ -72,26 +72,19 @@ module _ {A : Type 0} where
   asc-within lo [] a = tt
   asc-within lo (e ∷ m) a = (rw (eqb-yes (e .0)) refl, within-cons e (suc (e .0)) m m (omega arith) (a .1) (asc-within (suc (e .0)) m (a .1)))
 
--- ---- the same for sets
-pub ascL-down : (lo lo′ : ℕ) (l : List ℕ) → lo ≤ lo′ → AscL lo′ l → AscL lo l
-ascL-down lo lo′ [] h a = tt
-ascL-down lo lo′ (x ∷ l) h a = (let y = a .0 in omega arith, a .1)
+-- ---- sets, as maps to nothing
+pub asc-units : (lo : ℕ) (l : List ℕ) → AscL lo l → Asc lo (units l)
+unfolding units
+asc-units lo [] a = tt
+asc-units lo (x ∷ l) a = (a .0, asc-units (suc x) l (a .1))
+
+asc-keys : {A : Type 0} (lo : ℕ) (m : List (ℕ × A)) → Asc lo m → AscL lo (keys m)
+unfolding keys
+asc-keys lo [] a = tt
+asc-keys lo (e ∷ m) a = (a .0, asc-keys (suc (e .0)) m (a .1))
 
 pub ascL-add : (lo k : ℕ) (l : List ℕ) → lo ≤ k → AscL lo l → AscL lo (add k l)
-unfolding add
-ascL-add lo k [] h a = (h, tt)
-ascL-add lo k (x ∷ l) h a = go (eqb k x) (ltb k x) refl refl (ascL-add (suc x) k l)
-  where
-    go : (b c : Bool) → eqb k x ≡ b → ltb k x ≡ c → (suc x ≤ k → AscL (suc x) l → AscL (suc x) (add k l)) → AscL lo (cond b (x ∷ l) (cond c (k ∷ x ∷ l) (x ∷ add k l)))
-    go true c p q ih = a
-    go false true p q ih = (h, (ltb→lt k x (true→T (ltb k x) q), a .1))
-    go false false p q ih = let y : k ≢ x = no-eqb k x p in let z : x ≤ k = no-ltb k x q in (a .0, ih (omega arith) (a .1))
+ascL-add lo k l h a = subst (AscL lo) (add-units k l) (asc-keys lo (put k tt (units l)) (asc-put lo k tt (units l) h (asc-units lo l a)))
 
 pub ascL-cut : (lo k : ℕ) (l : List ℕ) → AscL lo l → AscL lo (cut k l)
-unfolding cut
-ascL-cut lo k [] a = tt
-ascL-cut lo k (x ∷ l) a = go (eqb k x) (ascL-cut (suc x) k l (a .1))
-  where
-    go : (b : Bool) → AscL (suc x) (cut k l) → AscL lo (cond b (cut k l) (x ∷ cut k l))
-    go true ih = ascL-down lo (suc x) (cut k l) (let y = a .0 in omega arith) ih
-    go false ih = (a .0, ih)
+ascL-cut lo k l a = subst (AscL lo) (cut-units k l) (asc-keys lo (del k (units l)) (asc-del lo k (units l) (asc-units lo l a)))

@@ -2,13 +2,13 @@
 use Prim.Native.Nat.{ℕ, suc, _≤_, _<_, zero-le}
 use native.Mathlib.Omega.{arith}
 use mathlib.Core.Path.{_≡_, refl, sym, ap, _∙_, subst}
-use mathlib.Core.Logic.{_⊎_, inl, inr, ⊎-elim, _↔_}
+use mathlib.Core.Logic.{_⊎_, inl, inr, _↔_}
 use mathlib.Core.Bool.{_||_}
 use mathlib.Core.List.{List, [], _∷_, _++_}
 use mathlib.Core.Option.{Option, none, some, Option·none-ne-some, Option·some-injective}
 use lib.Dec.{T, eqb, eqb→eq, eqb-refl}
 use lib.Ieee.{Float}
-use Rattle.ieee.proofs.Tools.{lt-or-ge}
+use Rattle.ieee.proofs.Tools.{lt-or-ge, or-cases}
 use Rattle.model.specs.Maps.{keys, has, Asc}
 use Rattle.model.specs.Layer.{Points, Edges, Pair, edge, pairOf, pairsFrom, pairs}
 use Rattle.model.specs.Good.{Good, want}
@@ -16,8 +16,8 @@ use Rattle.model.specs.Corner.{anyBit}
 use Rattle.model.specs.Map.{Map, Op, shiftOf}
 use Rattle.model.specs.Refusal.{run, opened}
 use Rattle.model.specs.Answers.{allPairs}
-use Rattle.model.proofs.MapLaws.{Or, or-left, or-right, keys-has}
-use Rattle.model.proofs.SingleLaws.{asc-miss}
+use Rattle.model.proofs.MapLaws.{or-left, or-right, keys-has}
+use Rattle.model.proofs.SingleLaws.{asc-above}
 use Rattle.model.proofs.Demand3.{demand3}
 
 -- the pair p, q with the blocker b stands in the list
@@ -29,9 +29,6 @@ Listed p q b (x ∷ l) = ((x .lesser ≡ p) × (x .greater ≡ q) × (x .block �
 abbrev pub Ascending : ℕ → ℕ → List Pair → Type 0
 Ascending p q [] = Unit {0}
 Ascending p q (x ∷ l) = ((p < x .lesser) ⊎ ((p ≡ x .lesser) × (q ≤ x .greater))) × Ascending (x .lesser) (suc (x .greater)) l
-
-asc-above : (lo k : ℕ) (ps : Points) → Asc lo ps → T (has k (keys ps)) → lo ≤ k
-asc-above lo k ps a u = ⊎-elim (λ h. absurd (asc-miss lo k ps a h u)) (λ h. h) (lt-or-ge k lo)
 
 module _ (p q : ℕ) (b : Option ℕ) where
   listed-left : (l m : List Pair) → Listed p q b l → Listed p q b (l ++ m)
@@ -78,7 +75,7 @@ module _ (p q : ℕ) (b : Option ℕ) where
   row-back : (qs : Points) (e : Edges) → T (has q (keys qs)) → edge p q e ≡ some b → Listed p q b (pairsFrom p qs e)
   unfolding pairsFrom keys has
   row-back [] e u f = absurd u
-  row-back (j ∷ qs) e u f = go (Or (eqb q (j .0)) (has q (keys qs)) u) (row-back qs e)
+  row-back (j ∷ qs) e u f = go (or-cases (eqb q (j .0)) (has q (keys qs)) u) (row-back qs e)
     where
       rest : List Pair
       rest = pairsFrom p qs e
@@ -101,7 +98,7 @@ module _ (p q : ℕ) (b : Option ℕ) where
   all-back : (lo : ℕ) (ps : Points) (e : Edges) → Asc lo ps → T (has p (keys ps)) → T (has q (keys ps)) → p < q → edge p q e ≡ some b → Listed p q b (pairs ps e)
   unfolding pairs keys has
   all-back lo [] e a u v l f = absurd u
-  all-back lo (i ∷ ps) e a u v l f = go (Or (eqb p (i .0)) (has p (keys ps)) u) (Or (eqb q (i .0)) (has q (keys ps)) v) (all-back (suc (i .0)) ps e (a .1))
+  all-back lo (i ∷ ps) e a u v l f = go (or-cases (eqb p (i .0)) (has p (keys ps)) u) (or-cases (eqb q (i .0)) (has q (keys ps)) v) (all-back (suc (i .0)) ps e (a .1))
     where
       go : T (eqb p (i .0)) ⊎ T (has p (keys ps)) → T (eqb q (i .0)) ⊎ T (has q (keys ps))
           → (T (has p (keys ps)) → T (has q (keys ps)) → p < q → edge p q e ≡ some b → Listed p q b (pairs ps e)) → Listed p q b (pairsFrom (i .0) ps e ++ pairs ps e)

@@ -8,6 +8,7 @@ use mathlib.Core.List.{List, [], _∷_, _++_}
 use mathlib.Core.Option.{Option, none, some}
 use lib.Dec.{T, eqb, eqb→eq, eqb-refl}
 use lib.Ieee.Fits.{and-l, and-r}
+use Rattle.ieee.proofs.Tools.{or-cases}
 use Rattle.model.specs.Maps.{keys, isSome, has}
 use Rattle.model.specs.Cell.{Dir, SW, SE, NW, NE, col, row, move}
 use Rattle.model.specs.Corner.{Bits, zero4, bit, anyBit, sameBits, statusOf, quadrant, sees}
@@ -16,7 +17,7 @@ use Rattle.model.specs.Layer.{Tests, Work, Mark, marks, edge, mark, mark
 use Rattle.model.specs.Good.{bitsIn, Joined}
 use Rattle.model.specs.Limits.{maxShift}
 use Rattle.model.specs.ClosedForm.{statusAfter, statusRun, Untouched, Once, stays, joins}
-use Rattle.model.proofs.MapLaws.{Or, or-left, or-right, T→true, true→T, notT→false}
+use Rattle.model.proofs.MapLaws.{or-left, or-right, T→true, true→T, notT→false}
 use Rattle.model.proofs.BitLaws.{no-bit, sameDir, ext-bits}
 use Rattle.model.proofs.SingleLaws.{Single}
 use Rattle.model.proofs.CornerLaws.{Safe, Fits}
@@ -42,7 +43,7 @@ altered-fresh C C′ done (k ∷ l) x h t =
     go : (s : Bool) → has k done || sameBits (statusOf C k) (statusOf C′ k) ≡ s → T (has x (keys (cond s rest ((k, statusOf C′ k) ∷ rest))))
         → (T (has x (keys rest)) → ⊥) → ⊥
     go true q u f = f u
-    go false q u f = ⊎-elim (λ v. old (sameBits (statusOf C k) (statusOf C′ k)) q (eqb→eq x k v)) f (Or (eqb x k) (has x (keys rest)) u)
+    go false q u f = ⊎-elim (λ v. old (sameBits (statusOf C k) (statusOf C′ k)) q (eqb→eq x k v)) f (or-cases (eqb x k) (has x (keys rest)) u)
 
 altered-single : (C C′ done l : List ℕ) → Single (keys (altered C C′ done l))
 unfolding altered has keys

@@ -7,13 +7,14 @@ use mathlib.Core.Logic.{_≢_, _⊎_, inl, inr, ⊎-elim}
 use mathlib.Core.Bool.{Bool, true, false, cond, _||_, _&&_, and-true, and-false}
 use mathlib.Core.List.{List, [], _∷_, _++_}
 use lib.Dec.{T, eqb, eqb→eq, eqb-refl}
+use Rattle.ieee.proofs.Tools.{or-cases}
 use Rattle.model.specs.Maps.{keys, has}
 use Rattle.model.specs.Cell.{Dir, SW, SE, NW, NE, opp, move}
 use Rattle.model.specs.Corner.{Bits, bit, setBit, statusOf}
 use Rattle.model.specs.Layer.{Mark, marksOf, marks}
 use Rattle.model.specs.ClosedForm.{statusAfter, statusRun}
 use Rattle.model.specs.Limits.{maxShift}
-use Rattle.model.proofs.MapLaws.{Or, eqb-yes, eqb-no, T→true}
+use Rattle.model.proofs.MapLaws.{eqb-yes, eqb-no, T→true}
 use Rattle.model.proofs.BitLaws.{sameDir, bit-set}
 use Rattle.model.proofs.CornerLaws.{Safe, Fits}
 
@@ -91,4 +92,4 @@ marks-right s C (c ∷ cs) D k b h f r =
     go : Dec (B ≡ c .0) → Right s C D k b ⊎ T (eqb B (c .0) || has B (keys cs)) → Right s C D k next ⊎ T (has B (keys cs))
     go d (inl r) = inl (cell-right s C (c .0) k b D h (f .1 .0) (inl r))
     go (yes e) (inr r) = inl (cell-right s C (c .0) k b D h (f .1 .0) (inr (sym e)))
-    go (no n) (inr r) = inr (⊎-elim (λ u. absurd (n (eqb→eq B (c .0) u))) (λ u. u) (Or (eqb B (c .0)) (has B (keys cs)) r))
+    go (no n) (inr r) = inr (⊎-elim (λ u. absurd (n (eqb→eq B (c .0) u))) (λ u. u) (or-cases (eqb B (c .0)) (has B (keys cs)) r))

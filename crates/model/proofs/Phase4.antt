@@ -9,11 +9,11 @@ use mathlib.Core.List.{List, [], _∷_}
 use mathlib.Core.Option.{Option, none, some, Option·map}
 use lib.Dec.{T, eqb, eqb→eq}
 use lib.Ieee.Fits.{and-i, and-l, and-r}
-use Rattle.ieee.proofs.Tools.{lt-or-ge}
+use Rattle.ieee.proofs.Tools.{lt-or-ge, or-cases}
 use Rattle.model.specs.Maps.{keys, isSome, has, Asc}
 use Rattle.model.specs.Batch.{Batch}
 use Rattle.model.specs.Layer.{Tests, Points, Edges, edge, edgeRun, settleAt, settleRow, settleAll, phase4}
-use Rattle.model.proofs.MapLaws.{Or, or-left, or-right, T→true, notT→false, eqb-yes, eqb-no}
+use Rattle.model.proofs.MapLaws.{or-left, or-right, T→true, notT→false, eqb-yes, eqb-no}
 use Rattle.model.proofs.SingleLaws.{asc-miss}
 use Rattle.model.proofs.EdgeLaws.{Twins, hits, hits-fore, hits-either, link-at, twins-link}
 
@@ -27,13 +27,13 @@ unfolding keys has
 before-has p q [] u = u
 before-has p q (i ∷ is) u =
     ⊎-elim (λ x. or-left (eqb p (i .0)) (has p (keys is)) (and-l (eqb p (i .0)) (has q (keys is)) x)) (λ x. or-right (eqb p (i .0)) (has p (keys is)) (before-has p q is x))
-    (Or (eqb p (i .0) && has q (keys is)) (before p q is) u)
+    (or-cases (eqb p (i .0) && has q (keys is)) (before p q is) u)
 
 before-yes : (p q lo : ℕ) (is : Points) → Asc lo is → p < q → T (has p (keys is)) → T (has q (keys is)) → T (before p q is)
 unfolding keys has
 before-yes p q lo [] a l x y = x
 before-yes p q lo (i ∷ is) a l x y =
-    go (Or (eqb p (i .0)) (has p (keys is)) x) (Or (eqb q (i .0)) (has q (keys is)) y) (before-yes p q (suc (i .0)) is (a .1) l)
+    go (or-cases (eqb p (i .0)) (has p (keys is)) x) (or-cases (eqb q (i .0)) (has q (keys is)) y) (before-yes p q (suc (i .0)) is (a .1) l)
   where
     go : T (eqb p (i .0)) ⊎ T (has p (keys is)) → T (eqb q (i .0)) ⊎ T (has q (keys is)) → (T (has p (keys is)) → T (has q (keys is)) → T (before p q is))
         → T ((eqb p (i .0) && has q (keys is)) || before p q is)

@@ -10,26 +10,23 @@ use mathlib.Core.Option.{none, some, Option·some-injective}
 use lib.Dec.{T, eqb, eqb→eq}
 use lib.Ieee.{Float, binary64, div, lt}
 use Rattle.ieee.specs.Constants.{pow2}
+use Rattle.ieee.proofs.Tools.{or-cases}
+use Rattle.model.proofs.SingleLaws.{asc-above}
+use Rattle.model.proofs.OrderLaws.{asc-units}
 use Rattle.model.specs.Maps.{has, find, AscL}
 use Rattle.model.specs.Plane.{minus, norm, tiny, cellOf}
 use Rattle.model.specs.Shape.{Question, point, square, circle, sweep, pointTest, squareTest, circleTest, sweepTest, stripOf, inStrip, ask, qualifies, First}
-use Rattle.model.proofs.MapLaws.{eqb-yes, eqb-no, Or}
+use Rattle.model.proofs.MapLaws.{eqb-yes, eqb-no, units, keys-units}
 use Rattle.model.proofs.FindLaws.{find-has, find-passes, find-none}
 
 asc-le : (lo : ℕ) (l : List ℕ) → AscL lo l → (j : ℕ) → T (has j l) → lo ≤ j
-unfolding has
-asc-le lo [] a j u = absurd u
-asc-le lo (x ∷ l) a j u = go (Or (eqb j x) (has j l) u) (asc-le (suc x) l (a .1) j)
-  where
-    go : T (eqb j x) ⊎ T (has j l) → (T (has j l) → suc x ≤ j) → lo ≤ j
-    go (inl v) ih = let e = eqb→eq j x v in let h = a .0 in omega arith
-    go (inr v) ih = let g = ih v in let h = a .0 in omega arith
+asc-le lo l a j u = asc-above lo j (units l) (asc-units lo l a) (rw (keys-units l) u)
 
 -- no member before the one that is found passes
 find-first : (p : ℕ → Bool) (lo : ℕ) (l : List ℕ) (k : ℕ) → AscL lo l → find p l ≡ some k → (j : ℕ) → T (has j l) → j < k → T (p j) → ⊥
 unfolding find has
 find-first p lo [] k a e j h g t = h
-find-first p lo (x ∷ l) k a e j h g t = go (p x) refl e (Or (eqb j x) (has j l) h) (λ q u. find-first p (suc x) l k (a .1) q j u g t)
+find-first p lo (x ∷ l) k a e j h g t = go (p x) refl e (or-cases (eqb j x) (has j l) h) (λ q u. find-first p (suc x) l k (a .1) q j u g t)
   where
     go : (b : Bool) → p x ≡ b → cond b (some x) (find p l) ≡ some k → T (eqb j x) ⊎ T (has j l) → (find p l ≡ some k → T (has j l) → ⊥) → ⊥
     go true q r (inl u) ih = let s = Option·some-injective x k r in let v = eqb→eq j x u in omega arith

@@ -11,6 +11,7 @@ use lib.IntN.{natAbs}
 use lib.Ieee.{Float, lt, le, eq}
 use Rattle.ieee.specs.Constants.{nought}
 use mathlib.Core.Option.{some, Option·none-ne-some}
+use Rattle.ieee.proofs.Tools.{or-cases}
 use Rattle.model.specs.Maps.{has, keys, get, Asc}
 use Rattle.model.specs.Limits.{maxCoordinate, maxCells, maxPoints}
 use Rattle.model.specs.Cell.{key}
@@ -21,7 +22,6 @@ use Rattle.model.specs.Good.{bitsIn, want, Inside, Good}
 use Rattle.model.specs.Map.{Map, Entry, Op, batch, radius, toBatch, shiftOf, tests, emptyLayer, fresh, changed, rebuilt, next}
 use Rattle.model.specs.Refusal.{Checks, firstOf, verdict, short, badSize, badRadius, before, unsorted, offMap, outside, crowded, packed, judge, refusal, unless, step, run, nothing, refuseOpen, opened}
 use Rattle.model.specs.Demand3.{told, history, lastWord}
-use Rattle.model.proofs.MapLaws.{Or}
 use Rattle.model.proofs.OrderLaws.{asc-down, no-ltb}
 use Rattle.model.proofs.BatchLaws.{cells-last}
 use Rattle.model.proofs.LayerLaws.{change-good, rebuild-good}
@@ -59,7 +59,7 @@ batch-ascends (a ∷ l) s o = asc-down 0 (key (a .x) (a .y)) (toBatch (a ∷ l))
 pub batch-inside : (l : List Entry) → outside l ≡ false → (x : ℕ) → T (has x (keys (toBatch l))) → Inside maxCoordinate x
 unfolding toBatch keys has
 batch-inside [] o x t = absurd t
-batch-inside (a ∷ l) o x t = go (Or (eqb x (key (a .x) (a .y))) (has x (keys (toBatch l))) t) (batch-inside l (fair a l o .1) x)
+batch-inside (a ∷ l) o x t = go (or-cases (eqb x (key (a .x) (a .y))) (has x (keys (toBatch l))) t) (batch-inside l (fair a l o .1) x)
   where
     f : Fair a
     f = fair a l o .0

@@ -7,6 +7,7 @@ use mathlib.Core.Bool.{Bool, true, false, cond, _||_}
 use mathlib.Core.List.{List, [], _∷_, _++_}
 use lib.Dec.{T, eqb, eqb-refl}
 use lib.ListN.{length, length-append}
+use Rattle.ieee.proofs.Tools.{lt-or-ge}
 use Rattle.model.specs.Maps.{get, keys, isSome, has, cut, Asc}
 use Rattle.model.proofs.MapLaws.{or-left, or-right, has-cut-other, has-append, keys-has}
 use Rattle.model.proofs.OrderLaws.{asc-get}
@@ -18,6 +19,9 @@ Single (x ∷ l) = (T (has x l) → ⊥) × Single l
 -- what lies below an ascending map is none of its keys
 pub asc-miss : {A : Type 0} (lo k : ℕ) (m : List (ℕ × A)) → Asc lo m → k < lo → T (has k (keys m)) → ⊥
 asc-miss lo k m a h t = let u : T (isSome (get k m)) = rw (← keys-has k m) t in let v : T false = rw (asc-get lo m k a h) at u in v
+
+pub asc-above : {A : Type 0} (lo k : ℕ) (m : List (ℕ × A)) → Asc lo m → T (has k (keys m)) → lo ≤ k
+asc-above lo k m a u = ⊎-elim (λ h. absurd (asc-miss lo k m a h u)) (λ h. h) (lt-or-ge k lo)
 
 -- The keys of an ascending map stand once each.
 pub asc-single : {A : Type 0} (lo : ℕ) (m : List (ℕ × A)) → Asc lo m → Single (keys m)
