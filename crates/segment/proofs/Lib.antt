@@ -1,0 +1,8 @@
+-- The laws of crate `segment`.
+pub mod CornerLaws
+pub mod CrossingLaws
+pub mod MeetsLaws
+pub mod NearLaws
+pub mod SearchWalk
+pub mod SquaredLaws
+pub mod SumOfSquares

@@ -1,0 +1,19 @@
+-- `Proximity::new` works out the two thresholds. Assumes nothing.
+use Rattle.model.specs.Plane.{bound}
+use borrow.Author.Needs.{needs}
+use mathlib.Core.Path.{refl}
+use Rattle.segment.proofs.near.Proximity.new.Statement.{statement}
+use Rattle.segment.proofs.near.Proximity.new.Tie as tie
+
+root-threshold-requires : tie.Need-root-threshold-requires
+root-threshold-requires c κs = search needs
+
+root-threshold-requires-2 : tie.Need-root-threshold-requires-2
+root-threshold-requires-2 c κs = search needs
+
+returns : tie.Need-returns
+unfolding bound
+returns c = record { size = refl; near = c .before .root-threshold .ensures; far = c .root-threshold2 .ensures }
+
+pub new-spec : {M : Type 1} → statement M
+new-spec = tie.close (tie.spec root-threshold-requires root-threshold-requires-2 returns)

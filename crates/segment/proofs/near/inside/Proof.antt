@@ -1,0 +1,28 @@
+-- `near::inside` is the two axes' comparisons. Assumes nothing.
+use borrow.Author.Needs.{needs}
+use lib.Ieee.{lt}
+use mathlib.Core.Bool.{true, false, _&&_}
+use mathlib.Core.Path.{_≡_, refl, sym, _∙_}
+use Rattle.segment.proofs.near.inside.Statement.{statement}
+use Rattle.segment.proofs.near.inside.Tie as tie
+
+within-requires : tie.Need-within-requires
+within-requires c κs = search needs
+
+within-requires-2 : tie.Need-within-requires-2
+within-requires-2 c κs = search needs
+
+returns : tie.Need-returns
+returns c =
+    let a = c .before .before .before .args in
+    let h : (lt (a .a .x) (a .p .x) && lt (a .p .x) (a .b .x)) ≡ true = sym (c .before .before .within .ensures) ∙ c .before .if1 .taken in
+    c .within2 .ensures ∙ rw h refl
+
+returns-2 : tie.Need-returns-2
+returns-2 c =
+    let a = c .before .before .args in
+    let h : (lt (a .a .x) (a .p .x) && lt (a .p .x) (a .b .x)) ≡ false = sym (c .before .within .ensures) ∙ c .if1 .left in
+    rw h refl
+
+pub inside-spec : {M : Type 1} → statement M
+inside-spec = tie.close (tie.spec within-requires within-requires-2 returns returns-2)

@@ -1,0 +1,12 @@
+-- `plane::Point::minus` is the model's `minus`, step for step. Assumes nothing.
+use mathlib.Core.Path.{refl}
+use Rattle.model.specs.Plane.{minus}
+use Rattle.segment.proofs.plane.Point.minus.Statement.{statement}
+use Rattle.segment.proofs.plane.Point.minus.Tie as tie
+
+returns : tie.Need-returns
+unfolding minus
+returns c = refl
+
+pub minus-spec : {M : Type 1} → statement M
+minus-spec = tie.close (tie.spec returns)

@@ -1,0 +1,6 @@
+-- What the contracts of crate `segment` cite.
+pub mod Crossing
+pub mod Near
+pub mod Search
+pub mod Squared
+pub mod Values

@@ -1,0 +1,6 @@
+// Points, vectors and segments of floats (the Rust's occupancy/util.rs), step for step.
+pub mod line;
+pub mod measured;
+pub mod near;
+pub mod plane;
+pub mod search;

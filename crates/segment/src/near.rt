@@ -1,0 +1,148 @@
+// The near test: whether a segment passes near a cell. No root is taken for a corner: its square is
+// compared with the root's thresholds, which are worked out once.
+use crate::line::Crossings;
+use crate::line::LineSegment;
+use crate::measured::Measured;
+use crate::plane::Point;
+ghost use mathlib.Core.Path.{_≡_};
+ghost use mathlib.Core.Bool.{_&&_};
+ghost use Prim.Native.Nat.{_≤_};
+ghost use lib.Ieee.{binary64, lt, mul, ofInt};
+ghost use Rattle.ieee.specs.Whole.{unbias};
+ghost use lib.IntN.{pos};
+ghost use Rattle.model.specs.Plane.{lowCorner};
+ghost use Rattle.model.specs.Segment.{between, meets, passesNear};
+ghost use Rattle.segment.specs.Crossing.{values};
+ghost use Rattle.segment.specs.Near.{IsProximity, nearBy};
+ghost use Rattle.segment.specs.Values.{pt, seg};
+
+// A cell size and a radius as the near test needs them: a corner whose square is below `near` is
+// nearer than the radius, and one whose square is `far` or above is too far for any part of the cell.
+pub struct Proximity {
+    pub size: f64,
+    pub near: f64,
+    pub far: f64,
+}
+
+// Where the column or row n begins. The sum is at most 2 ^ 31 in size, and so the cast exact.
+fn edge(n: u64, size: f64) -> f64
+    requires { ⌜ n ≤ 4294967296 ⌝ }
+    ensures { λ r. ⌜ r ≡ mul binary64 size (ofInt binary64 (unbias n)) ⌝ }
+{
+    size * ((n as i64 - 2147483648) as f64)
+}
+
+// The Rust's `cell.shifted(i, j).bottom_left_point(size)`.
+fn corner(cell: u64, i: u64, j: u64, size: f64) -> Point
+    requires { ⌜ (i ≤ 1) × (j ≤ 1) ⌝ }
+    ensures { λ r. ⌜ pt r ≡ lowCorner size cell (pos i) (pos j) ⌝ }
+{
+    Point {
+        x: edge(cell / 4294967296 + i, size),
+        y: edge(cell % 4294967296 + j, size),
+    }
+}
+
+// Whether v lies strictly between.
+fn within(low: f64, v: f64, high: f64) -> bool
+    ensures { λ r. ⌜ r ≡ (lt low v && lt v high) ⌝ }
+{
+    if low < v {
+        return v < high;
+    }
+    false
+}
+
+// Strictly inside the cell from a to b.
+fn inside(p: Point, a: Point, b: Point) -> bool
+    ensures { λ r. ⌜ r ≡ (lt (a .x) (p .x) && lt (p .x) (b .x) && lt (a .y) (p .y) && lt (p .y) (b .y)) ⌝ }
+{
+    if within(a.x, p.x, b.x) {
+        return within(a.y, p.y, b.y);
+    }
+    false
+}
+
+// Whether one of the values lies strictly between.
+fn one_within(low: f64, v: Crossings, high: f64) -> bool
+    ensures { λ r. ⌜ r ≡ between low high (values v) ⌝ }
+{
+    if v.count == 0 {
+        return false;
+    }
+    if within(low, v.first, high) {
+        return true;
+    }
+    if v.count == 1 {
+        return false;
+    }
+    within(low, v.second, high)
+}
+
+// An end strictly inside the cell from a to b, or a crossing of one of its sides.
+fn meets_cell(s: LineSegment, a: Point, b: Point) -> bool
+    ensures { λ r. ⌜ r ≡ meets (seg s) (pt a) (pt b) ⌝ }
+{
+    let p0 = s.p0;
+    let p1 = s.p1;
+    if inside(p0, a, b) {
+        return true;
+    }
+    if inside(p1, a, b) {
+        return true;
+    }
+    if one_within(a.y, s.vertical_intersect(a.x), b.y) {
+        return true;
+    }
+    if one_within(a.y, s.vertical_intersect(b.x), b.y) {
+        return true;
+    }
+    if one_within(a.x, s.horizontal_intersect(a.y), b.x) {
+        return true;
+    }
+    one_within(a.x, s.horizontal_intersect(b.y), b.x)
+}
+
+impl Proximity {
+    // 1.4143 is slightly above the root of 2, so that no part of a cell further off is missed.
+    pub fn new(size: f64, radius: f64) -> Self
+        ensures { λ r. ⌜ IsProximity size radius r ⌝ }
+    {
+        Proximity {
+            size,
+            near: ieee::threshold::root_threshold(radius),
+            far: ieee::threshold::root_threshold(radius + 1.4143 * size),
+        }
+    }
+}
+
+impl Measured {
+    // The corners in the Rust's order; where none decides, the remaining steps do.
+    pub fn passes_near(self, reach: Proximity, cell: u64) -> bool
+        ensures { λ r. ⌜ r ≡ nearBy self reach cell ⌝ }
+    {
+        let size = reach.size;
+        let mut i = 0;
+        while i < 4 {
+            let q = self.square_to(corner(cell, i / 2, i % 2, size));
+            if q < reach.near {
+                return true;
+            }
+            if reach.far <= q {
+                return false;
+            }
+            i += 1;
+        }
+        let s = self.segment;
+        meets_cell(s, corner(cell, 0, 0, size), corner(cell, 1, 1, size))
+    }
+}
+
+impl LineSegment {
+    pub fn passes_near_cell(self, cell: u64, size: f64, radius: f64) -> bool
+        ensures { λ r. ⌜ r ≡ passesNear (seg self) cell size radius ⌝ }
+    {
+        let m = self.measured();
+        m.passes_near(Proximity::new(size, radius), cell)
+    }
+}
