@@ -1,7 +1,9 @@
-//! Links the archive that `rt staticlib ieee_c` writes.
+//! Links the archives that `rt staticlib` writes of `ieee_c` and `segment_c`.
 fn main() {
     let folder = concat!(env!("CARGO_MANIFEST_DIR"), "/../target/staticlib");
     println!("cargo:rustc-link-search=native={folder}");
-    println!("cargo:rustc-link-lib=static=ieee_c");
-    println!("cargo:rerun-if-changed={folder}/libieee_c.a");
+    for name in ["ieee_c", "segment_c"] {
+        println!("cargo:rustc-link-lib=static={name}");
+        println!("cargo:rerun-if-changed={folder}/lib{name}.a");
+    }
 }

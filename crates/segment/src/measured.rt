@@ -38,7 +38,8 @@ impl LineSegment {
 }
 
 impl Measured {
-    // The square of the distance: what the root is taken of.
+    // The square of the distance: what the root is taken of. All three squares are worked out before
+    // one is picked, since where a point lies cannot be foretold and a wrong guess costs more.
     pub fn square_to(self, p: Point) -> f64
         ensures { λ r. ⌜ r ≡ squared self (pt p) ⌝ }
     {
@@ -46,20 +47,23 @@ impl Measured {
         let length = self.length;
         let unit = self.unit;
         let p0 = s.p0;
+        let p1 = s.p1;
         let v = p.minus(p0);
-        if length < 1e-8 {
-            return v.dot(v);
-        }
+        let w = p.minus(p1);
         let shadow = v.dot(unit);
+        let across = v.minus(unit.times(shadow));
+        let to_first = v.dot(v);
+        let to_second = w.dot(w);
+        let to_line = across.dot(across);
+        if length < 1e-8 {
+            return to_first;
+        }
         if shadow < 0.0 {
-            return v.dot(v);
+            return to_first;
         }
         if shadow > length {
-            let p1 = s.p1;
-            let w = p.minus(p1);
-            return w.dot(w);
+            return to_second;
         }
-        let across = v.minus(unit.times(shadow));
-        across.dot(across)
+        to_line
     }
 }

@@ -1,0 +1,2 @@
+-- The laws of crate `segment_c`.
+pub mod CellsLaws

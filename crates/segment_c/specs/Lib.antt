@@ -1,0 +1,2 @@
+-- What the contracts of crate `segment_c` cite.
+pub mod Cells
