@@ -2,6 +2,9 @@
 
 pub mod occupancy;
 pub mod stand_ins;
+pub mod vectors;
+
+use occupancy::Cell;
 
 /// Marsaglia's xorshift with the shifts 13, 7 and 17: the same numbers on every run.
 pub struct Random(u64);
@@ -19,9 +22,27 @@ impl Random {
         self.0 ^= self.0 << 17;
         self.0
     }
+
+    pub fn below(&mut self, n: u64) -> u64 {
+        (self.next() >> 20) % n
+    }
+
+    pub fn pick<T: Copy>(&mut self, from: &[T]) -> T {
+        from[self.below(from.len() as u64) as usize]
+    }
+
+    /// From -1 to 1.
+    pub fn unit(&mut self) -> f64 {
+        (self.next() >> 11) as f64 / (1u64 << 52) as f64 - 1.0
+    }
 }
 
 /// A column as the tables hold it: 2^31 more, brought to the range of 32 bits.
 pub fn column(n: i64) -> u64 {
     (n.clamp(-(1 << 31), (1 << 31) - 1) + (1 << 31)) as u64
+}
+
+/// The number that the tables hold for a cell.
+pub fn key(c: &Cell) -> u64 {
+    (column(c.x) << 32) + column(c.y)
 }

@@ -92,7 +92,10 @@ pub struct ArrayVec<T, const N: usize> {
 
 impl<T: Copy, const N: usize> ArrayVec<T, N> {
     pub fn new() -> Self {
-        Self { values: [None; N], count: 0 }
+        Self {
+            values: [None; N],
+            count: 0,
+        }
     }
 
     pub fn push(&mut self, value: T) {
@@ -110,7 +113,10 @@ impl<T, const N: usize> IntoIterator for ArrayVec<T, N> {
 }
 
 /// mapf/src/util.rs
-pub fn triangular_for<Item>(iterable: impl Iterator<Item = Item> + Clone, mut f: impl FnMut(&Item, Item)) {
+pub fn triangular_for<Item>(
+    iterable: impl Iterator<Item = Item> + Clone,
+    mut f: impl FnMut(&Item, Item),
+) {
     let mut outer_iter = iterable.into_iter();
     while let Some(outer_value) = outer_iter.next() {
         let mut inner_iter = outer_iter.clone();

@@ -3,7 +3,7 @@
 use bench::near_cells;
 use oracle::occupancy::util::LineSegment;
 use oracle::occupancy::{Cell, Point};
-use oracle::{column, Random};
+use oracle::{key, Random};
 use std::hint::black_box;
 use std::time::Instant;
 
@@ -34,6 +34,9 @@ fn floor(extent: u64, radius: f64) -> Floor {
     }
 }
 
+/// One place of call, so that the compiler draws all of the near test into the loop and takes the
+/// segment's length out of it.
+#[inline(never)]
 fn rust(floor: &Floor, segment: &[f64; 4], out: &mut [u8]) {
     let [x0, y0, x1, y1] = *segment;
     let line = LineSegment::new(Point::new(x0, y0), Point::new(x1, y1));
@@ -58,11 +61,7 @@ fn time(floor: &Floor, mut one: impl FnMut(&[f64; 4], &mut [u8])) -> f64 {
 }
 
 fn measure(name: &str, floor: Floor) {
-    let keys: Vec<u64> = floor
-        .cells
-        .iter()
-        .map(|cell| column(cell.x) << 32 | column(cell.y))
-        .collect();
+    let keys: Vec<u64> = floor.cells.iter().map(key).collect();
     let (mut a, mut b, mut yes) = (vec![0; CELLS], vec![0; CELLS], 0);
     for segment in &floor.segments {
         rust(&floor, segment, &mut a);

@@ -1,6 +1,7 @@
 // Points, vectors and segments of floats (the Rust's occupancy/util.rs), step for step.
 pub mod line;
-pub mod measured;
+mod measured;
+mod meets;
 pub mod near;
 pub mod plane;
 pub mod search;

@@ -8,14 +8,14 @@ ghost use Rattle.model.specs.Segment.{distance};
 ghost use Rattle.segment.specs.Values.{pt, seg, vec};
 ghost use Rattle.segment.specs.Squared.{measuredOf, squared};
 
-pub struct Measured {
+pub(crate) struct Measured {
     pub segment: LineSegment,
     pub length: f64,
     pub unit: Vector,
 }
 
 impl LineSegment {
-    pub fn measured(self) -> Measured
+    pub(crate) fn measured(self) -> Measured
         ensures { λ r. ⌜ r ≡ measuredOf self ⌝ }
     {
         let p0 = self.p0;
@@ -40,7 +40,7 @@ impl LineSegment {
 impl Measured {
     // The square of the distance: what the root is taken of. All three squares are worked out before
     // one is picked, since where a point lies cannot be foretold and a wrong guess costs more.
-    pub fn square_to(self, p: Point) -> f64
+    pub(crate) fn square_to(self, p: Point) -> f64
         ensures { λ r. ⌜ r ≡ squared self (pt p) ⌝ }
     {
         let s = self.segment;

@@ -18,7 +18,7 @@ pub struct Vector {
 
 impl Point {
     // The vector from `other` to this point.
-    pub fn minus(self, other: Point) -> Vector
+    pub(crate) fn minus(self, other: Point) -> Vector
         ensures { λ r. ⌜ vec r ≡ minus (pt self) (pt other) ⌝ }
     {
         Vector {
@@ -29,7 +29,7 @@ impl Point {
 }
 
 impl Vector {
-    pub fn minus(self, other: Vector) -> Vector
+    pub(crate) fn minus(self, other: Vector) -> Vector
         ensures { λ r. ⌜ vec r ≡ minus (vec self) (vec other) ⌝ }
     {
         Vector {
@@ -38,7 +38,7 @@ impl Vector {
         }
     }
 
-    pub fn times(self, factor: f64) -> Vector
+    pub(crate) fn times(self, factor: f64) -> Vector
         ensures { λ r. ⌜ vec r ≡ times (vec self) factor ⌝ }
     {
         Vector {
@@ -47,7 +47,7 @@ impl Vector {
         }
     }
 
-    pub fn over(self, divisor: f64) -> Vector
+    pub(crate) fn over(self, divisor: f64) -> Vector
         ensures { λ r. ⌜ vec r ≡ over (vec self) divisor ⌝ }
     {
         Vector {
@@ -56,13 +56,13 @@ impl Vector {
         }
     }
 
-    pub fn dot(self, other: Vector) -> f64
+    pub(crate) fn dot(self, other: Vector) -> f64
         ensures { λ r. ⌜ r ≡ dot (vec self) (vec other) ⌝ }
     {
         self.x * other.x + self.y * other.y
     }
 
-    pub fn norm(self) -> f64
+    pub(crate) fn norm(self) -> f64
         ensures { λ r. ⌜ r ≡ norm (vec self) ⌝ }
     {
         ieee::root::root(self.dot(self))

@@ -1,21 +1,8 @@
 //! Writes the vectors that the program `ieee_vectors` replays: `stdin` (function and operands) and
 //! `stdout` (the same with the answer of the machine's own function behind it), into the folder
 //! that is its one argument. The list is the same on every run.
+use oracle::vectors::{pattern, special, Vectors, INFINITY, SIGN};
 use oracle::{column, Random};
-use std::fmt::Write;
-
-const SIGN: u64 = 1 << 63;
-const INFINITY: u64 = 2047 << 52;
-const NAN: u64 = 0x7ff8_0000_0000_0000;
-
-/// One pattern stands for every NaN.
-fn pattern(x: f64) -> u64 {
-    if x.is_nan() {
-        NAN
-    } else {
-        x.to_bits()
-    }
-}
 
 /// The least value whose root is at least b, by bisection over the patterns from +0 to infinity.
 fn threshold(b: f64) -> f64 {
@@ -48,37 +35,6 @@ fn answer(function: char, x: f64, y: f64) -> u64 {
         't' => pattern(threshold(x)),
         _ => unreachable!(),
     }
-}
-
-/// Values at which a float function goes wrong first, of both signs.
-fn special() -> Vec<u64> {
-    let mut list = vec![
-        0,
-        1,
-        2,
-        3,
-        (1 << 52) - 1,
-        1 << 52,
-        (1 << 52) + 1,
-        INFINITY - 1,
-        INFINITY,
-        NAN,
-    ];
-    for x in [
-        0.5, 1.0, 1.5, 2.0, 2.5, 1e-8, 1.4143, 256.0, 65_536.0, 1e308,
-    ] {
-        list.extend([f64::to_bits(x) - 1, f64::to_bits(x), f64::to_bits(x) + 1]);
-    }
-    // where the fraction ends, where a column ends, where an i64 ends
-    for power in [30, 31, 32, 40, 51, 52, 53, 54, 62, 63, 64] {
-        let edge = 2f64.powi(power);
-        for x in [edge - 1.0, edge - 0.5, edge, edge + 0.5, edge + 1.0] {
-            list.extend([x.to_bits() - 1, x.to_bits(), x.to_bits() + 1]);
-        }
-    }
-    let negative: Vec<u64> = list.iter().map(|b| b ^ SIGN).collect();
-    list.extend(negative);
-    list
 }
 
 /// Where a root is a whole number, or as near as can be to the middle between two values.
@@ -119,7 +75,6 @@ fn reals(random: &mut Random, count: usize) -> Vec<u64> {
 }
 
 fn main() {
-    let folder = std::env::args().nth(1).expect("the folder to write to");
     let mut random = Random::default();
     let mut vectors: Vec<(char, u64, u64)> = Vec::new();
     vectors.extend(roots(&mut random).into_iter().map(|x| ('r', x, 0)));
@@ -149,12 +104,10 @@ fn main() {
             }
         }
     }
-    let (mut asked, mut answered) = (String::new(), String::new());
+    let mut list = Vectors::default();
     for (function, x, y) in vectors {
-        writeln!(asked, "{function} {x:016x} {y:016x}").unwrap();
         let result = answer(function, f64::from_bits(x), f64::from_bits(y));
-        writeln!(answered, "{function} {x:016x} {y:016x} {result:016x}").unwrap();
+        list.push(function, &[x, y], &[result]);
     }
-    std::fs::write(format!("{folder}/stdin"), asked).unwrap();
-    std::fs::write(format!("{folder}/stdout"), answered).unwrap();
+    list.write();
 }

@@ -2,15 +2,10 @@
 //! `model`: one file of the prover's language, which it accepts only if every answer is computed to be the same.
 //! Arguments: how many runs, how many questions, a seed. `oracle/model` makes the file and has it checked.
 use oracle::occupancy::{Cell, Grid, Point, SparseGrid, Visibility};
-use oracle::Random;
+use oracle::{key, Random};
 use std::collections::BTreeMap;
 
 const HEAD: &str = include_str!("model_claims.txt");
-
-/// The number that the tables hold for a cell.
-fn key(c: &Cell) -> u64 {
-    (oracle::column(c.x) << 32) + oracle::column(c.y)
-}
 
 fn blocker(c: &Option<Cell>) -> u64 {
     c.as_ref().map_or(0, key)
@@ -40,73 +35,83 @@ fn list(items: impl IntoIterator<Item = impl std::fmt::Display>) -> String {
     text + "[])"
 }
 
-struct Dice(Random);
+fn cell(dice: &mut Random, base: Cell, reach: i64) -> Cell {
+    let n = 2 * reach as u64 + 1;
+    base.shifted(dice.below(n) as i64 - reach, dice.below(n) as i64 - reach)
+}
 
-impl Dice {
-    fn below(&mut self, n: u64) -> u64 {
-        (self.0.next() >> 20) % n
-    }
+fn size(dice: &mut Random) -> f64 {
+    dice.pick(&[256.0, 2.0, 1.0, 1000.1, 0.1, 3.7, 1.0 / 1024.0, 65536.0])
+}
 
-    fn pick<T: Copy>(&mut self, from: &[T]) -> T {
-        from[self.below(from.len() as u64) as usize]
-    }
+fn base(dice: &mut Random) -> Cell {
+    dice.pick(&[
+        (0, 0),
+        (0, 0),
+        (-5, 3),
+        (1_048_500, -1_048_500),
+        (-1_048_000, 77),
+    ])
+    .into()
+}
 
-    /// From -1 to 1.
-    fn unit(&mut self) -> f64 {
-        (self.0.next() >> 11) as f64 / (1u64 << 52) as f64 - 1.0
-    }
-
-    fn cell(&mut self, base: Cell, reach: i64) -> Cell {
-        let n = 2 * reach as u64 + 1;
-        base.shifted(self.below(n) as i64 - reach, self.below(n) as i64 - reach)
-    }
-
-    fn size(&mut self) -> f64 {
-        self.pick(&[256.0, 2.0, 1.0, 1000.1, 0.1, 3.7, 1.0 / 1024.0, 65536.0])
-    }
-
-    fn base(&mut self) -> Cell {
-        self.pick(&[(0, 0), (0, 0), (-5, 3), (1_048_500, -1_048_500), (-1_048_000, 77)]).into()
-    }
-
-    fn radius(&mut self, size: f64) -> f64 {
-        size * self.pick(&[0.0, 0.5, 0.5, 0.78125, 1.0, 1.3, 1.7])
-    }
+fn radius(dice: &mut Random, size: f64) -> f64 {
+    size * dice.pick(&[0.0, 0.5, 0.5, 0.78125, 1.0, 1.3, 1.7])
 }
 
 /// One operation on the map, and its text.
-fn operate(dice: &mut Dice, base: Cell, map: &mut Visibility<SparseGrid>) -> String {
+fn operate(dice: &mut Random, base: Cell, map: &mut Visibility<SparseGrid>) -> String {
     if dice.below(5) == 0 {
-        let r = dice.radius(map.grid().cell_size());
+        let r = radius(dice, map.grid().cell_size());
         map.change_agent_radius(r);
         return format!("radius {}", float(r));
     }
     let mut batch = BTreeMap::new();
     for _ in 0..1 + dice.below(3) {
-        let cell = dice.cell(base, 3);
+        let cell = cell(dice, base, 3);
         batch.insert(cell, dice.below(4) != 0);
     }
     map.change_cells(&batch);
-    let entry = |(c, o): (&Cell, &bool)| format!("{} {} {}", if *o { "fill" } else { "clear" }, integer(c.x), integer(c.y));
+    let entry = |(c, o): (&Cell, &bool)| {
+        format!(
+            "{} {} {}",
+            if *o { "fill" } else { "clear" },
+            integer(c.x),
+            integer(c.y)
+        )
+    };
     format!("batch {}", list(batch.iter().map(entry)))
 }
 
 /// A run, and what the map is afterwards. Floors with more than eight points take the prover too long.
-fn claim_run(dice: &mut Dice, name: &str) -> Option<String> {
-    let (size, base) = (dice.size(), dice.base());
-    let radius = dice.radius(size);
+fn claim_run(dice: &mut Random, name: &str) -> Option<String> {
+    let (size, base) = (size(dice), base(dice));
+    let radius = radius(dice, size);
     let mut map = Visibility::new(SparseGrid::new(size), radius);
-    let operations: Vec<String> = (0..1 + dice.below(3)).map(|_| operate(dice, base, &mut map)).collect();
+    let operations: Vec<String> = (0..1 + dice.below(3))
+        .map(|_| operate(dice, base, &mut map))
+        .collect();
     if map.debug_points().is_empty() || map.debug_points().len() > 8 {
         return None;
     }
     let cells = map.grid().occupied_cells().into_iter().map(key);
-    let points = map.debug_points().iter().flat_map(|(k, (b, s))| [key(k), s.0 as u64, blocker(b)]);
-    let rows = map.debug_edges().iter().flat_map(|(p, row)| row.iter().map(move |(q, b)| (p, q, b)));
-    let pairs = rows.filter(|(p, q, _)| p < q).flat_map(|(p, q, b)| [key(p), key(q), blocker(b)]);
-    let mut open: Vec<[u64; 2]> = map.iter_edges().map(|(p, q)| [key(p.min(q)), key(p.max(q))]).collect();
+    let points = map
+        .debug_points()
+        .iter()
+        .flat_map(|(k, (b, s))| [key(k), s.0 as u64, blocker(b)]);
+    let rows = map
+        .debug_edges()
+        .iter()
+        .flat_map(|(p, row)| row.iter().map(move |(q, b)| (p, q, b)));
+    let pairs = rows
+        .filter(|(p, q, _)| p < q)
+        .flat_map(|(p, q, b)| [key(p), key(q), blocker(b)]);
+    let mut open: Vec<[u64; 2]> = map
+        .iter_edges()
+        .map(|(p, q)| [key(p.min(q)), key(p.max(q))])
+        .collect();
     open.sort();
-    let from = dice.cell(base, 4);
+    let from = cell(dice, base, 4);
     let visible = map.calculate_visibility(from).map(|c| key(&c));
     let neighbours = map.neighbors(from).map(|c| key(&c));
     Some(format!(
@@ -121,26 +126,39 @@ fn claim_run(dice: &mut Dice, name: &str) -> Option<String> {
 }
 
 /// A question of one of the four shapes about a few cells. Half of the numbers are multiples of half a cell.
-fn claim_question(dice: &mut Dice, name: &str) -> String {
-    let (size, base, even) = (dice.size(), dice.base(), dice.below(2) == 0);
+fn claim_question(dice: &mut Random, name: &str) -> String {
+    let (size, base, even) = (size(dice), base(dice), dice.below(2) == 0);
     let mut batch = BTreeMap::new();
     for _ in 0..1 + dice.below(3) {
-        batch.insert(dice.cell(base, 2), true);
+        batch.insert(cell(dice, base, 2), true);
     }
     let mut grid = SparseGrid::new(size);
     grid.change_cells(&batch);
     let mut number = |at: i64| {
         let steps = at as f64 + 4.0 * dice.unit();
-        size * if even { (steps * 2.0).round() / 2.0 } else { steps }
+        size * if even {
+            (steps * 2.0).round() / 2.0
+        } else {
+            steps
+        }
     };
     let p = Point::new(number(base.x), number(base.y));
     let q = Point::new(number(base.x), number(base.y));
     let w = number(0).abs();
     let (question, found) = match dice.below(4) {
         0 => (format!("point {}", point(p)), grid.is_point_occupied(p)),
-        1 => (format!("square {} {}", point(p), float(w)), grid.is_square_occupied(p, w)),
-        2 => (format!("circle {} {}", point(p), float(w)), grid.is_circle_occupied(p, w)),
-        _ => (format!("sweep {} {} {}", point(p), point(q), float(w)), grid.is_sweep_occupied(p, q, w)),
+        1 => (
+            format!("square {} {}", point(p), float(w)),
+            grid.is_square_occupied(p, w),
+        ),
+        2 => (
+            format!("circle {} {}", point(p), float(w)),
+            grid.is_circle_occupied(p, w),
+        ),
+        _ => (
+            format!("sweep {} {} {}", point(p), point(q), float(w)),
+            grid.is_sweep_occupied(p, q, w),
+        ),
     };
     format!(
         "\n{name} : T (eqb (cell? (ask {} {} ({question}) .cell)) {})\nunfolding everything ask\n{name} = tt\n",
@@ -149,9 +167,14 @@ fn claim_question(dice: &mut Dice, name: &str) -> String {
 }
 
 fn main() {
-    let args: Vec<u64> = std::env::args().skip(1).map(|a| a.parse().expect("a number")).collect();
-    let [runs, questions, seed] = args[..] else { panic!("runs, questions, seed") };
-    let mut dice = Dice(Random::default());
+    let args: Vec<u64> = std::env::args()
+        .skip(1)
+        .map(|a| a.parse().expect("a number"))
+        .collect();
+    let [runs, questions, seed] = args[..] else {
+        panic!("runs, questions, seed")
+    };
+    let mut dice = Random::default();
     for _ in 0..seed {
         dice.below(1);
     }

@@ -1,9 +1,9 @@
--- `near::one_within` looks at the places that are used. Assumes nothing.
+-- `meets::one_within` looks at the places that are used. Assumes nothing.
 use borrow.Author.Needs.{needs}
 use mathlib.Core.Path.{sym, _∙_}
 use Rattle.segment.proofs.CrossingLaws.{none-there, first-there, no-second, second-there}
-use Rattle.segment.proofs.near.one_within.Statement.{statement}
-use Rattle.segment.proofs.near.one_within.Tie as tie
+use Rattle.segment.proofs.meets.one_within.Statement.{statement}
+use Rattle.segment.proofs.meets.one_within.Tie as tie
 
 returns : tie.Need-returns
 returns c = let a = c .before .before .args in none-there (a .low) (a .high) (a .v) (c .if1 .taken)

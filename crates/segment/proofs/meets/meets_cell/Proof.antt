@@ -1,11 +1,11 @@
--- `near::meets_cell` is the model's `meets`: six tests in turn. Assumes nothing.
+-- `meets::meets_cell` is the model's `meets`: six tests in turn. Assumes nothing.
 use borrow.Author.Needs.{needs}
 use mathlib.Core.Bool.{false}
 use mathlib.Core.Path.{_≡_, sym, _∙_}
 use Rattle.segment.specs.Values.{pt, seg}
 use Rattle.segment.proofs.MeetsLaws.{Inside, Upright, Level, upright-there, level-there, meets-1, meets-2, meets-3, meets-4, meets-5, meets-6}
-use Rattle.segment.proofs.near.meets_cell.Statement.{statement}
-use Rattle.segment.proofs.near.meets_cell.Tie as tie
+use Rattle.segment.proofs.meets.meets_cell.Statement.{statement}
+use Rattle.segment.proofs.meets.meets_cell.Tie as tie
 
 -- the arguments, from where each test has been made
 abbrev at1 : tie.After-inside → tie.Start

@@ -1,4 +1,4 @@
--- `ieee_vectors::float_of` is safe: past the test the pattern is no NaN's. Assumes nothing.
+-- `vectors::float_of` is safe: past the test the pattern is no NaN's. Assumes nothing.
 use mathlib.Core.Path.{sym, subst, _∙_}
 use mathlib.Core.Bool.{Bool, not}
 use Prim.Native.Nat.{_%_, _*_, _^_}
@@ -7,8 +7,8 @@ use lib.Ieee.{binary64}
 use lib.Ieee.Bits.{nanBits-above}
 use borrow.Author.Needs.{needs}
 use borrow.Author.Tests.{le-ltb}
-use Rattle.ieee_vectors.proofs.float_of.Statement.{statement}
-use Rattle.ieee_vectors.proofs.float_of.Tie as tie
+use Rattle.vectors.proofs.float_of.Statement.{statement}
+use Rattle.vectors.proofs.float_of.Tie as tie
 
 returns : tie.Need-returns
 returns c = search needs

@@ -1,11 +1,11 @@
--- `ieee_vectors::pattern_of` is safe: past the test the value is no NaN. Assumes nothing.
+-- `vectors::pattern_of` is safe: past the test the value is no NaN. Assumes nothing.
 use mathlib.Core.Path.{sym, subst}
 use mathlib.Core.Bool.{Bool, not}
 use lib.Dec.{T}
 use borrow.Author.Needs.{needs}
 use Rattle.ieee.proofs.Picks.{no-nan}
-use Rattle.ieee_vectors.proofs.pattern_of.Statement.{statement}
-use Rattle.ieee_vectors.proofs.pattern_of.Tie as tie
+use Rattle.vectors.proofs.pattern_of.Statement.{statement}
+use Rattle.vectors.proofs.pattern_of.Tie as tie
 
 returns : tie.Need-returns
 returns c = search needs

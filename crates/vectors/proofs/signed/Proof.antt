@@ -1,4 +1,4 @@
--- `ieee_vectors::signed` is safe: -1 - n is n's magnitude less one where n is negative. Assumes nothing.
+-- `vectors::signed` is safe: -1 - n is n's magnitude less one where n is negative. Assumes nothing.
 use mathlib.Core.Path.{_≡_, refl, sym, ap, _∙_, subst}
 use Prim.Native.Nat.{ℕ, suc, _-_, _^_, _≤_, _<_}
 use native.Mathlib.Omega.{arith}
@@ -11,8 +11,8 @@ use mir.Val.{SFits, Fits, toZ, ofZ}
 use mir.ValLaws.{toZ-ofZ}
 use borrow.Author.Needs.{needs}
 use borrow.Author.Tests.{le-ltb, ltb-true}
-use Rattle.ieee_vectors.proofs.signed.Statement.{statement}
-use Rattle.ieee_vectors.proofs.signed.Tie as tie
+use Rattle.vectors.proofs.signed.Statement.{statement}
+use Rattle.vectors.proofs.signed.Tie as tie
 
 -- ---- the two cases, over a plain integer
 flipped : (z : ℤ) → ltZ z (pos 0) ≡ true → negsuc 0 -ℤ z ≡ pos (mag z)

@@ -1,10 +1,10 @@
--- `near::inside` is the two axes' comparisons. Assumes nothing.
+-- `meets::inside` is the two axes' comparisons. Assumes nothing.
 use borrow.Author.Needs.{needs}
 use lib.Ieee.{lt}
 use mathlib.Core.Bool.{true, false, _&&_}
 use mathlib.Core.Path.{_≡_, refl, sym, _∙_}
-use Rattle.segment.proofs.near.inside.Statement.{statement}
-use Rattle.segment.proofs.near.inside.Tie as tie
+use Rattle.segment.proofs.meets.inside.Statement.{statement}
+use Rattle.segment.proofs.meets.inside.Tie as tie
 
 within-requires : tie.Need-within-requires
 within-requires c κs = search needs

@@ -1,15 +1,24 @@
--- `ieee_vectors::pattern_at` is safe and ends: sixteen digits, the last ones of which are kept. Assumes nothing.
+-- `vectors::pattern_at` is safe and ends: sixteen digits, the last ones of which are kept. Assumes nothing.
 use Prim.Native.Nat.{_≤_, _-_}
 use native.Mathlib.Omega.{arith}
 use borrow.Author.Needs.{needs}
-use Rattle.ieee_vectors.proofs.pattern_at.Statement.{statement}
-use Rattle.ieee_vectors.proofs.pattern_at.Tie as tie
+use Rattle.vectors.proofs.pattern_at.Statement.{statement}
+use Rattle.vectors.proofs.pattern_at.Tie as tie
 
 abbrev Inv-loop : tie.InvT-loop
 Inv-loop line from v₀ i₀ v i = i ≤ 16
 
 abbrev μ-loop : tie.MeasureT-loop
 μ-loop line from v₀ i₀ v i = 16 - i
+
+returns : tie.Need-returns Inv-loop μ-loop
+returns c = search needs
+
+sub-if2 : tie.Need-sub-if2 Inv-loop μ-loop
+sub-if2 c = omega arith
+
+returns-2 : tie.Need-returns-2 Inv-loop μ-loop
+returns-2 c = search needs
 
 loop-holds : tie.Need-loop-holds Inv-loop μ-loop
 loop-holds c = omega arith
@@ -38,8 +47,8 @@ loop-less c = omega arith
 loop-again : tie.Need-loop-again Inv-loop μ-loop
 loop-again c = omega arith
 
-returns : tie.Need-returns Inv-loop μ-loop
-returns c = search needs
+returns-3 : tie.Need-returns-3 Inv-loop μ-loop
+returns-3 c = search needs
 
 pub pattern-at-spec : {M : Type 1} → statement M
 pattern-at-spec =
@@ -47,6 +56,9 @@ pattern-at-spec =
     (tie.spec
     Inv-loop
     μ-loop
+    returns
+    sub-if2
+    returns-2
     loop-holds
     mul-v
     add-digit
@@ -56,4 +68,4 @@ pattern-at-spec =
     add-i
     loop-less
     loop-again
-    returns)
+    returns-3)

@@ -1,7 +1,7 @@
--- `near::within` is two strict comparisons. Assumes nothing.
+-- `meets::within` is two strict comparisons. Assumes nothing.
 use mathlib.Core.Path.{refl}
-use Rattle.segment.proofs.near.within.Statement.{statement}
-use Rattle.segment.proofs.near.within.Tie as tie
+use Rattle.segment.proofs.meets.within.Statement.{statement}
+use Rattle.segment.proofs.meets.within.Tie as tie
 
 returns : tie.Need-returns
 returns c = rw (c .if1 .taken) refl

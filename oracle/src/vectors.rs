@@ -1,0 +1,69 @@
+//! What the lists of vectors share: bit patterns, awkward values, and the two files of a list.
+
+pub const SIGN: u64 = 1 << 63;
+pub const INFINITY: u64 = 2047 << 52;
+const NAN: u64 = 0x7ff8_0000_0000_0000;
+
+/// One pattern stands for every NaN.
+pub fn pattern(x: f64) -> u64 {
+    if x.is_nan() {
+        NAN
+    } else {
+        x.to_bits()
+    }
+}
+
+/// Values at which a float function goes wrong first, of both signs.
+pub fn special() -> Vec<u64> {
+    let mut list = vec![
+        0,
+        1,
+        2,
+        3,
+        (1 << 52) - 1,
+        1 << 52,
+        (1 << 52) + 1,
+        INFINITY - 1,
+        INFINITY,
+        NAN,
+    ];
+    for x in [
+        0.5, 1.0, 1.5, 2.0, 2.5, 1e-8, 1.4143, 256.0, 65_536.0, 1e308,
+    ] {
+        list.extend([f64::to_bits(x) - 1, f64::to_bits(x), f64::to_bits(x) + 1]);
+    }
+    // where the fraction ends, where a column ends, where an i64 ends
+    for power in [30, 31, 32, 40, 51, 52, 53, 54, 62, 63, 64] {
+        let edge = 2f64.powi(power);
+        for x in [edge - 1.0, edge - 0.5, edge, edge + 0.5, edge + 1.0] {
+            list.extend([x.to_bits() - 1, x.to_bits(), x.to_bits() + 1]);
+        }
+    }
+    let negative: Vec<u64> = list.iter().map(|b| b ^ SIGN).collect();
+    list.extend(negative);
+    list
+}
+
+/// The vectors as a program reads them, and as it is to write them.
+#[derive(Default)]
+pub struct Vectors {
+    asked: String,
+    answered: String,
+}
+
+impl Vectors {
+    pub fn push(&mut self, function: char, operands: &[u64], answer: &[u64]) {
+        let digits =
+            |numbers: &[u64]| -> String { numbers.iter().map(|n| format!(" {n:016x}")).collect() };
+        let line = format!("{function}{}", digits(operands));
+        self.asked += &format!("{line}\n");
+        self.answered += &format!("{line}{}\n", digits(answer));
+    }
+
+    /// To `stdin` and `stdout` in the folder that is the program's one argument.
+    pub fn write(&self) {
+        let folder = std::env::args().nth(1).expect("the folder to write to");
+        std::fs::write(format!("{folder}/stdin"), &self.asked).unwrap();
+        std::fs::write(format!("{folder}/stdout"), &self.answered).unwrap();
+    }
+}
