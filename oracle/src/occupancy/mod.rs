@@ -264,10 +264,8 @@ pub trait Grid: std::fmt::Debug {
 
     /// Change the occupancy value of a set of cells. Get back any changes that
     /// have occurred to the corners of the occupancy.
-    fn change_cells(
-        &mut self,
-        changes: &BTreeMap<Cell, bool>,
-    ) -> (ConfirmedChanges, ChangedCorners);
+    fn change_cells(&mut self, changes: &BTreeMap<Cell, bool>)
+        -> (ConfirmedChanges, ChangedCorners);
 
     /// Get the size (width and height) of a cell.
     fn cell_size(&self) -> f64;
