@@ -191,7 +191,7 @@ unlike-false : (s : Bool) → unlike false s ≡ s
 unlike-false true = refl
 unlike-false false = refl
 
-unlike-right : (s : Bool) → unlike s false ≡ s
+pub unlike-right : (s : Bool) → unlike s false ≡ s
 unlike-right true = refl
 unlike-right false = refl
 

@@ -10,6 +10,9 @@ pub mod Examples
 pub mod Floor
 pub mod FloorIeee
 pub mod Integers
+pub mod Monotone
+pub mod MonotoneProduct
+pub mod MonotoneSum
 pub mod Patterns
 pub mod Picks
 pub mod RootBits

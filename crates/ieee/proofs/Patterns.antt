@@ -312,7 +312,7 @@ below-fin (fin true m e) a d h = unfold lt in go (m * up e) (0 * down e) (down d
     go : (x z p b : ℕ) → z ≡ 0 → 0 < p → 0 < x * 1 + z → ltb 0 (x * p + b) ≡ true
     go x z p b e P h = lt-ltb 0 (x * p + b) (more (x * p) b (mul-pos (some x z e h) P))
 
-lt-le : (x y : Float) → lt x y ≡ true → le x y ≡ true
+pub lt-le : (x y : Float) → lt x y ≡ true → le x y ≡ true
 unfolding le
 lt-le x y h = ap (λ (t : Bool). t || eq x y) h
 

@@ -1,7 +1,7 @@
 -- Columns and rows as signed numbers, and where a cell's corners lie. Assumes nothing.
 use Prim.Native.Nat.{ℕ, _+_, _^_, _≤_, _<_}
 use native.Mathlib.Omega.{arith}
-use mathlib.Core.Path.{_≡_, sym, ap, _∙_, subst}
+use mathlib.Core.Path.{_≡_, ap, _∙_}
 use lib.Dec.{T, lt→ltb, le→leb}
 use lib.Signed.{mag}
 use lib.IntN.{ℤ, pos, negsuc, _+ℤ_, _-ℤ_}
@@ -10,7 +10,7 @@ use mir.Syntax.{w64}
 use mir.Val.{SFits, toZ}
 use mir.ValLaws.{toZ-pos}
 use Rattle.ieee.specs.Whole.{unbias}
-use Rattle.ieee.proofs.Integers.{ups, downs, add-parts, less-parts, same-int, unbias-parts, unbias-mag}
+use Rattle.ieee.proofs.Integers.{add-parts, less-parts, same-int, unbias-parts, unbias-mag}
 
 -- what the code computes of a column, in two's complement
 pub column-back : (n : ℕ) → n ≤ 2 ^ 32 → toZ w64 n -ℤ pos 2147483648 ≡ unbias n

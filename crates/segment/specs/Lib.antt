@@ -1,5 +1,6 @@
 -- What the contracts of crate `segment` cite.
 pub mod Crossing
+pub mod Many
 pub mod Near
 pub mod Search
 pub mod Squared

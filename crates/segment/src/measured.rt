@@ -5,7 +5,7 @@ use crate::plane::Point;
 use crate::plane::Vector;
 ghost use mathlib.Core.Path.{_≡_};
 ghost use Rattle.model.specs.Segment.{distance};
-ghost use Rattle.segment.specs.Values.{pt, seg, vec};
+ghost use Rattle.segment.specs.Values.{pt, seg};
 ghost use Rattle.segment.specs.Squared.{measuredOf, squared};
 
 pub(crate) struct Measured {

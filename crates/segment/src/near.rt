@@ -6,26 +6,26 @@ use crate::meets;
 use crate::plane::Point;
 ghost use mathlib.Core.Path.{_≡_};
 ghost use Prim.Native.Nat.{_≤_};
-ghost use lib.Ieee.{binary64, mul, ofInt};
-ghost use Rattle.ieee.specs.Whole.{unbias};
 ghost use lib.IntN.{pos};
 ghost use Rattle.model.specs.Plane.{lowCorner};
 ghost use Rattle.model.specs.Segment.{passesNear};
-ghost use Rattle.segment.specs.Near.{IsProximity, nearBy};
+ghost use Rattle.segment.specs.Near.{IsProximity, edgeOf, nearBy};
 ghost use Rattle.segment.specs.Values.{pt, seg};
 
 // A cell size and a radius as the near test needs them: a corner whose square is below `near` is
-// nearer than the radius, and one whose square is `far` or above is too far for any part of the cell.
+// nearer than the radius, and one whose square is `far` or above is at the limit or beyond it, too far
+// for any part of the cell.
 pub struct Proximity {
     pub size: f64,
+    pub limit: f64,
     pub near: f64,
     pub far: f64,
 }
 
 // Where the column or row n begins. The sum is at most 2 ^ 31 in size, and so the cast exact.
-fn edge(n: u64, size: f64) -> f64
+pub(crate) fn edge(n: u64, size: f64) -> f64
     requires { ⌜ n ≤ 4294967296 ⌝ }
-    ensures { λ r. ⌜ r ≡ mul binary64 size (ofInt binary64 (unbias n)) ⌝ }
+    ensures { λ r. ⌜ r ≡ edgeOf size n ⌝ }
 {
     size * ((n as i64 - 2147483648) as f64)
 }
@@ -46,17 +46,19 @@ impl Proximity {
     pub fn new(size: f64, radius: f64) -> Self
         ensures { λ r. ⌜ IsProximity size radius r ⌝ }
     {
+        let limit = radius + 1.4143 * size;
         Proximity {
             size,
+            limit,
             near: ieee::threshold::root_threshold(radius),
-            far: ieee::threshold::root_threshold(radius + 1.4143 * size),
+            far: ieee::threshold::root_threshold(limit),
         }
     }
 }
 
 impl Measured {
     // The corners in the Rust's order; where none decides, the remaining steps do.
-    pub fn passes_near(self, reach: Proximity, cell: u64) -> bool
+    pub(crate) fn passes_near(self, reach: Proximity, cell: u64) -> bool
         ensures { λ r. ⌜ r ≡ nearBy self reach cell ⌝ }
     {
         let size = reach.size;

@@ -1,8 +1,5 @@
 // Points and vectors of floats by value (nalgebra's Point2 and Vector2), and where a cell lies.
 ghost use mathlib.Core.Path.{_≡_};
-ghost use Prim.Native.Nat.{_≤_};
-ghost use lib.Ieee.{binary64, mul, ofInt};
-ghost use Rattle.ieee.specs.Whole.{unbias};
 ghost use Rattle.model.specs.Plane.{minus, times, over, dot, norm};
 ghost use Rattle.segment.specs.Values.{pt, vec};
 

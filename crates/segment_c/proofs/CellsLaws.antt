@@ -1,6 +1,6 @@
 -- The bytes that the near tests of many cells leave. Assumes nothing.
-use Prim.Native.Nat.{ℕ, zero, suc, _+_, _≤_, _<_}
-use native.Mathlib.Nat.{not-suc-le-zero, le-of-suc-le-suc}
+use Prim.Native.Nat.{ℕ, zero, suc, _+_, _≤_, _<_, suc-le-suc}
+use native.Mathlib.Nat.{not-suc-le-zero, le-of-suc-le-suc, zero-lt-suc}
 use native.Mathlib.Omega.{arith}
 use mathlib.Core.Path.{_≡_, refl, ap, _∙_}
 use mathlib.Core.Bool.{Bool}
@@ -19,9 +19,10 @@ pub answers-length : (f : ℕ → Bool) (cells : List ℕ) → length (answers f
 answers-length f [] = refl
 answers-length f (k ∷ l) = ap suc (answers-length f l)
 
-answers-same : (f g : ℕ → Bool) → ((k : ℕ) → f k ≡ g k) → (cells : List ℕ) → answers f cells ≡ answers g cells
-answers-same f g e [] = refl
-answers-same f g e (k ∷ l) = rw (e k, answers-same f g e l) refl
+-- two tests that agree on the cells that are there
+answers-same : (f g : ℕ → Bool) (cells : List ℕ) → ((i : ℕ) → i < length cells → f (getD cells i 0) ≡ g (getD cells i 0)) → answers f cells ≡ answers g cells
+answers-same f g [] e = refl
+answers-same f g (k ∷ l) e = rw (e 0 (zero-lt-suc (length l)), answers-same f g l (λ i h. e (suc i) (suc-le-suc h))) refl
 
 answers-at : (f : ℕ → Bool) (cells : List ℕ) (i : ℕ) → i < length cells → getD (answers f cells) i 0 ≡ number (f (getD cells i 0))
 answers-at f [] i h = absurd (not-suc-le-zero h)
@@ -40,9 +41,9 @@ module _ (s : Seg) (c r : Float) (cells out : List ℕ) where
   unfolding told
   told-nothing h = rw (lt-leb (length cells) (length out) h) refl
 
-  pub told-all : (f : ℕ → Bool) → ((k : ℕ) → f k ≡ passesNear s k c r) → length cells ≤ length out → mix (answers f cells) out (length cells) ≡ told s c r cells out
+  pub told-all : (f : ℕ → Bool) → ((i : ℕ) → i < length cells → f (getD cells i 0) ≡ passesNear s (getD cells i 0) c r) → length cells ≤ length out → mix (answers f cells) out (length cells) ≡ told s c r cells out
   unfolding told
   told-all f e h =
       mix-done (answers f cells) out (length cells) (answers-length f cells)
-      ∙ ap (λ (l : List ℕ). l ++ drop (length cells) out) (answers-same f (λ k. passesNear s k c r) e cells)
+      ∙ ap (λ (l : List ℕ). l ++ drop (length cells) out) (answers-same f (λ k. passesNear s k c r) cells e)
       ∙ rw (le-leb (length cells) (length out) h) refl

@@ -1,5 +1,6 @@
 // The segments under C names, for Rust and C to call: benchmarks and comparisons go through here.
 use segment::line::LineSegment;
+use segment::many::NearTest;
 use segment::near::Proximity;
 use segment::plane::Point;
 ghost use mathlib.Core.Path.{_≡_};
@@ -60,11 +61,10 @@ pub extern "C" fn runcedau_near_cells(
     if near.len() < cells.len() {
         return false;
     }
-    let m = between(x0, y0, x1, y1).measured();
-    let reach = Proximity::new(size, radius);
+    let test = NearTest::new(between(x0, y0, x1, y1), Proximity::new(size, radius));
     let mut i = 0;
     while i < cells.len() {
-        near[i] = byte(m.passes_near(reach, cells[i]));
+        near[i] = byte(test.passes(cells[i]));
         i += 1;
     }
     true

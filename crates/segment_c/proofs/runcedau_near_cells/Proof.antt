@@ -3,37 +3,44 @@ use Prim.Native.Nat.{ℕ, _-_, _*_, _^_, _≤_, _<_}
 use native.Mathlib.Omega.{arith}
 use mathlib.Core.Path.{_≡_, refl, sym, ap, _∙_}
 use borrow.Author.Tests.{le-leb, lt-leb}
-use lib.ListN.{length, length-set}
+use mathlib.Core.Bool.{Bool, _&&_}
+use lib.ListN.{length, getD, length-set}
 use Rattle.lists.proofs.Front.{mix}
 use Rattle.model.specs.Segment.{Seg, passesNear}
+use Rattle.segment.specs.Many.{inSpans}
 use Rattle.segment.specs.Near.{nearBy}
-use Rattle.segment.specs.declared.measured.Measured.{Measured}
-use Rattle.segment.proofs.NearLaws.{near-is}
+use Rattle.segment.specs.declared.many.NearTest.{NearTest}
+use Rattle.segment.proofs.SpanLaws.{prepared-near}
 use Rattle.segment_c.specs.Cells.{number, pair}
 use Rattle.segment_c.proofs.CellsLaws.{answers, answer-more, told-nothing, told-all}
 use Rattle.segment_c.proofs.runcedau_near_cells.Statement.{statement}
 use Rattle.segment_c.proofs.runcedau_near_cells.Tie as tie
 
+-- what the prepared test answers
+abbrev says : NearTest → ℕ → Bool
+says t k = inSpans t k && nearBy (t .line) (t .reach) k
+
 abbrev Inv-loop : tie.InvT-loop
-Inv-loop x0 y0 x1 y1 size radius cells near₀ m reach i₀ near i =
-    (i ≤ length cells) × (length near ≡ length near₀) × (near ≡ mix (answers (nearBy m reach) cells) near₀ i)
+Inv-loop x0 y0 x1 y1 size radius cells near₀ test i₀ near i =
+    (i ≤ length cells) × (length near ≡ length near₀) × (near ≡ mix (answers (says test) cells) near₀ i)
 
 abbrev μ-loop : tie.MeasureT-loop
-μ-loop x0 y0 x1 y1 size radius cells near₀ m reach i₀ near i = length cells - i
+μ-loop x0 y0 x1 y1 size radius cells near₀ test i₀ near i = length cells - i
 
 -- the cells fit the memory
-long : (c : tie.After-new Inv-loop μ-loop) → length (c .before .before .before .before .before .before .args .cells .now) * 8 < 2 ^ 63
+long : (c : tie.After-new2 Inv-loop μ-loop) → length (c .before .before .before .before .before .before .args .cells .now) * 8 < 2 ^ 63
 long c = c .before .before .before .before .before .before .good .1 .1 .1 .1 .1 .1 .0 .1
 
 -- each answer is the model's
-near : (c : tie.After-new Inv-loop μ-loop) (k : ℕ)
+near : (c : tie.After-new2 Inv-loop μ-loop)
     → let a = c .before .before .before .before .before .before .args in
-    nearBy (c .before .measured .result) (c .new .result) k ≡ passesNear (pair (a .x0) (a .y0) (a .x1) (a .y1)) k (a .size) (a .radius)
-near c k =
+    (i : ℕ) → i < length (a .cells .now) → says (c .new2 .result) (getD (a .cells .now) i 0) ≡ passesNear (pair (a .x0) (a .y0) (a .x1) (a .y1)) (getD (a .cells .now) i 0) (a .size) (a .radius)
+near c i h =
     let a = c .before .before .before .before .before .before .args in
     let b = c .before .before .between in
-    ap (λ (m : Measured). nearBy m (c .new .result) k) (c .before .measured .ensures)
-    ∙ sym (near-is (b .result) (c .new .result) k (a .size) (a .radius) (c .new .ensures))
+    let k = getD (a .cells .now) i 0 in
+    let f : k < 2 ^ 64 = c .before .before .before .before .before .shared-slice-known .given i .fits in
+    prepared-near (b .result) (c .before .new .result) (c .new2 .result) k (a .size) (a .radius) f (c .new2 .ensures) (c .before .new .ensures)
     ∙ ap (λ (s : Seg). passesNear s k (a .size) (a .radius)) (b .ensures)
 
 returns : tie.Need-returns Inv-loop μ-loop
@@ -45,23 +52,23 @@ returns c =
 between-requires : tie.Need-between-requires Inv-loop μ-loop
 between-requires c κs = tt
 
-measured-requires : tie.Need-measured-requires Inv-loop μ-loop
-measured-requires c κs = tt
-
 new-requires : tie.Need-new-requires Inv-loop μ-loop
 new-requires c κs = tt
+
+new-requires-2 : tie.Need-new-requires-2 Inv-loop μ-loop
+new-requires-2 c κs = tt
 
 loop-holds : tie.Need-loop-holds Inv-loop μ-loop
 loop-holds c = (omega arith, refl, refl)
 
-mul-passes-near : tie.Need-mul-passes-near Inv-loop μ-loop
-mul-passes-near c = let k = long (c .before .before) in omega arith
+mul-passes : tie.Need-mul-passes Inv-loop μ-loop
+mul-passes c = let k = long (c .before .before) in omega arith
 
-shared-slice-read-passes-near : tie.Need-shared-slice-read-passes-near Inv-loop μ-loop
-shared-slice-read-passes-near c = omega arith
+shared-slice-read-passes : tie.Need-shared-slice-read-passes Inv-loop μ-loop
+shared-slice-read-passes c = omega arith
 
-passes-near-requires : tie.Need-passes-near-requires Inv-loop μ-loop
-passes-near-requires c κs = tt
+passes-requires : tie.Need-passes-requires Inv-loop μ-loop
+passes-requires c κs = tt
 
 byte-requires : tie.Need-byte-requires Inv-loop μ-loop
 byte-requires c κs = tt
@@ -79,8 +86,8 @@ loop-again : tie.Need-loop-again Inv-loop μ-loop
 loop-again c =
     let l = c .before .before .before .before in
     let a = l .before .before .before .before .before .before .before .args in
-    let f = nearBy (l .before .before .measured .result) (l .before .new .result) in
-    let e = c .byte .ensures ∙ ap number (c .before .passes-near .ensures) in
+    let f = says (l .before .new2 .result) in
+    let e = c .byte .ensures ∙ ap number (c .before .passes .ensures) in
     let more = answer-more f (a .cells .now) (a .near .now) (l .loop .i) (omega arith) (omega arith) in
     (omega arith, length-set (l .loop .near) (l .loop .i) _ ∙ l .loop .inv .1, rw (e, l .loop .inv .2) more)
 
@@ -93,7 +100,7 @@ returns-2 c =
     let a = n .before .before .before .before .before .before .args in
     let l : length (a .cells .now) ≤ length (a .near .now) = omega arith in
     let i : c .before .loop .i ≡ length (a .cells .now) = omega arith in
-    let f = nearBy (n .before .measured .result) (n .new .result) in (
+    let f = says (n .new2 .result) in (
       sym (le-leb (length (a .cells .now)) (length (a .near .now)) l),
       c .before .loop .inv .2 ∙ ap (mix (answers f (a .cells .now)) (a .near .now)) i ∙ told-all _ (a .size) (a .radius) (a .cells .now) (a .near .now) f (near n) l,
     )
@@ -106,12 +113,12 @@ runcedau-near-cells-spec =
     μ-loop
     returns
     between-requires
-    measured-requires
     new-requires
+    new-requires-2
     loop-holds
-    mul-passes-near
-    shared-slice-read-passes-near
-    passes-near-requires
+    mul-passes
+    shared-slice-read-passes
+    passes-requires
     byte-requires
     slice-write-near
     add-i

@@ -2,7 +2,6 @@
 use Prim.Native.Nat.{_-_, _/_, _%_, _≤_}
 use lib.IntN.{pos}
 use Rattle.model.specs.Plane.{Pt, lowCorner}
-use borrow.Author.Needs.{needs}
 use mathlib.Core.Path.{_≡_, ap, _∙_}
 use native.Mathlib.Omega.{arith}
 use Rattle.segment.specs.Squared.{squared}

@@ -1,0 +1,41 @@
+-- `NearTest::new`: the spans leave out nothing near. Assumes nothing.
+use mathlib.Core.Path.{refl, sym, _∙_}
+use mathlib.Core.Bool.{true≢false}
+use borrow.Author.Needs.{needs}
+use Rattle.segment.proofs.SpanLaws.{nothing-near, all-inside}
+use Rattle.segment.proofs.many.NearTest.new.Statement.{statement}
+use Rattle.segment.proofs.many.NearTest.new.Tie as tie
+
+measured-requires : tie.Need-measured-requires
+measured-requires c κs = search needs
+
+small-line-requires : tie.Need-small-line-requires
+small-line-requires c κs = search needs
+
+wide-requires : tie.Need-wide-requires
+wide-requires c κs = search needs
+
+span-of-requires : tie.Need-span-of-requires
+span-of-requires c κs = search needs
+
+span-of-requires-2 : tie.Need-span-of-requires-2
+span-of-requires-2 c κs = search needs
+
+returns : tie.Need-returns
+returns c =
+    let t = c .before .before .before .before .before .before in
+    let m = t .before .before .before .before .before .measured in
+    let a = t .before .before .before .before .before .before .args in
+    let line = t .before .before .before .small-line .ensures (t .before .before .if1 .taken) in
+    let wide = t .before .wide .ensures (t .if2 .taken) in
+    record {
+      line = m .ensures;
+      reach = refl;
+      outside = λ k h o. nothing-near (m .result) (a .reach) _ line wide (c .before .span-of .result) (c .span-of2 .result) (c .before .span-of .ensures) (c .span-of2 .ensures) k h o;
+    }
+
+returns-2 : tie.Need-returns-2
+returns-2 c = record { line = c .before .before .before .measured .ensures; reach = refl; outside = λ k h o. absurd (true≢false (sym (all-inside k h) ∙ o)) }
+
+pub new-spec : {M : Type 1} → statement M
+new-spec = tie.close (tie.spec measured-requires small-line-requires wide-requires span-of-requires span-of-requires-2 returns returns-2)

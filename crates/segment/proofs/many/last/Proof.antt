@@ -1,0 +1,40 @@
+-- `many::last`: the bound is returned where it was seen to hold. Assumes nothing.
+use borrow.Author.Needs.{needs}
+use lib.Ieee.{Float}
+use mathlib.Core.Path.{subst}
+use native.Mathlib.Omega.{arith}
+use Rattle.segment.specs.Many.{Above}
+use Rattle.segment.proofs.many.last.Statement.{statement}
+use Rattle.segment.proofs.many.last.Tie as tie
+
+max-requires : tie.Need-max-requires
+max-requires c κs = search needs
+
+column-of-requires : tie.Need-column-of-requires
+column-of-requires c κs = search needs
+
+add-here : tie.Need-add-here
+add-here c = omega arith
+
+add-edge : tie.Need-add-edge
+add-edge c = omega arith
+
+edge-requires : tie.Need-edge-requires
+edge-requires c κs = omega arith
+
+cast-result : tie.Need-cast-result
+cast-result c = omega arith
+
+returns : tie.Need-returns
+returns c =
+    let a = c .before .before .before .before .before .before .before .args in
+    λ h. subst (λ (x : Float). Above (a .side) (a .a) (a .b) (a .drift) x) (c .before .before .before .edge .ensures) (record { first = c .before .before .if2 .taken; second = c .before .if3 .taken; between = c .if4 .taken })
+
+returns-2 : tie.Need-returns-2
+returns-2 c = λ h. absurd (omega arith)
+
+returns-3 : tie.Need-returns-3
+returns-3 c = λ h. absurd (omega arith)
+
+pub last-spec : {M : Type 1} → statement M
+last-spec = tie.close (tie.spec max-requires column-of-requires add-here add-edge edge-requires cast-result returns returns-2 returns-3)

@@ -1,0 +1,35 @@
+-- `many::span_of` puts the two bounds together. Assumes nothing.
+use Prim.Native.Nat.{_+_, _-_}
+use borrow.Author.Needs.{needs}
+use lib.Ieee.{Float}
+use mathlib.Core.Path.{subst}
+use Rattle.segment.specs.Many.{Above, Below}
+use Rattle.segment.specs.Near.{edgeOf}
+use Rattle.segment.proofs.many.span_of.Statement.{statement}
+use Rattle.segment.proofs.many.span_of.Tie as tie
+
+fall-requires : tie.Need-fall-requires
+fall-requires c κs = search needs
+
+first-requires : tie.Need-first-requires
+first-requires c κs = search needs
+
+rise-requires : tie.Need-rise-requires
+rise-requires c κs = search needs
+
+last-requires : tie.Need-last-requires
+last-requires c κs = search needs
+
+returns : tie.Need-returns
+returns c =
+    let a = c .before .before .before .before .args in
+    let f = c .before .before .first in
+    let l = c .last in
+    record {
+      low = λ h. subst (λ (d : Float). Below (a .side) (a .a) (a .b) d (edgeOf (a .size) (f .result - 1))) (c .before .before .before .fall .ensures) (f .ensures .0 h);
+      high = λ h. subst (λ (d : Float). Above (a .side) (a .a) (a .b) d (edgeOf (a .size) (l .result + 1))) (c .before .rise .ensures) (l .ensures h);
+      range = f .ensures .1;
+    }
+
+pub span-of-spec : {M : Type 1} → statement M
+span-of-spec = tie.close (tie.spec fall-requires first-requires rise-requires last-requires returns)
