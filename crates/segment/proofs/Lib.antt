@@ -1,7 +1,7 @@
 -- The laws of crate `segment`.
+pub mod AsideLaws
 pub mod CornerLaws
 pub mod CrossingLaws
-pub mod ManyLaws
 pub mod MeetsLaws
 pub mod NearLaws
 pub mod SearchWalk

@@ -1,19 +1,16 @@
--- The near test of one segment against many cells: which columns and rows it leaves out. Definitions only; proofs/ManyLaws.antt shows that nothing near is left out.
-use Prim.Native.Nat.{ℕ, _+_, _-_, _/_, _%_, _^_, _<_}
+-- The near test of one segment against many cells: a cell outside of the spans is answered at once. Definitions only; proofs/SpanLaws.antt shows that nothing near is left out.
+use Prim.Native.Nat.{ℕ, _/_, _%_, _^_, _<_}
 use mathlib.Core.Path.{_≡_}
-use mathlib.Core.Bool.{Bool, true, false, cond, _&&_}
+use mathlib.Core.Bool.{Bool, false, _&&_}
 use lib.Dec.{leb}
-use lib.Ieee.{Float, binary64, sub, mul, neg, lt, le}
-use Rattle.ieee.specs.Constants.{nought, pow2}
-use Rattle.segment.specs.Near.{edgeOf, nearBy}
+use Rattle.segment.specs.Near.{nearBy}
 use Rattle.segment.specs.Squared.{measuredOf}
 use Rattle.segment.specs.declared.line.LineSegment.{LineSegment}
 use Rattle.segment.specs.declared.many.NearTest.{NearTest}
-use Rattle.segment.specs.declared.many.Span.{Span}
-use Rattle.segment.specs.declared.measured.Measured.{Measured}
 use Rattle.segment.specs.declared.near.Proximity.{Proximity}
+use Rattle.segment.specs.declared.spans.Span.{Span}
 
--- ---- the answer: a cell in the spans, and near
+-- the columns and the rows that are looked at
 abbrev pub inSpan : Span → ℕ → Bool
 inSpan s n = leb (s .low) n && leb n (s .high)
 
@@ -25,46 +22,3 @@ pub record Ready (s : LineSegment) (g : Proximity) (t : NearTest) : Type 0 where
   pub line : t .line ≡ measuredOf s
   pub reach : t .reach ≡ g
   pub outside : (k : ℕ) → k < 2 ^ 64 → inSpans t k ≡ false → nearBy (t .line) g k ≡ false
-
--- ---- how the spans are found, along one axis
-abbrev pub Small : Float → Type 0
-Small x = (le (neg (pow2 100)) x ≡ true) × (le x (pow2 100) ≡ true)
-
-pub record SmallLine (m : Measured) : Type 0 where
-  pub ax : Small (m .segment .p0 .x)
-  pub ay : Small (m .segment .p0 .y)
-  pub bx : Small (m .segment .p1 .x)
-  pub by : Small (m .segment .p1 .y)
-  pub ux : Small (m .unit .x)
-  pub uy : Small (m .unit .y)
-  pub length : Small (m .length)
-
-pub record Wide (g : Proximity) (side : Float) : Type 0 where
-  pub above : le nought side ≡ true
-  pub near : le (g .near) (mul binary64 side side) ≡ true
-  pub far : le (g .far) (mul binary64 side side) ≡ true
-  pub size : le nought (g .size) ≡ true
-  pub most : le (g .size) (pow2 100) ≡ true
-
--- how far a segment of length l goes up, and down, from its first end, u being its unit vector's coordinate
-abbrev pub up : Float → Float → Float
-up u l = cond (lt nought u) (mul binary64 u l) nought
-
-abbrev pub down : Float → Float → Float
-down u l = cond (lt u nought) (mul binary64 u l) nought
-
--- x is above the end a, the end b, and all between, by `side` at least
-pub record Above (side a b drift x : Float) : Type 0 where
-  pub first : le side (sub binary64 x a) ≡ true
-  pub second : le side (sub binary64 x b) ≡ true
-  pub between : le side (sub binary64 (sub binary64 x a) drift) ≡ true
-
-pub record Below (side a b drift x : Float) : Type 0 where
-  pub first : le (sub binary64 x a) (neg side) ≡ true
-  pub second : le (sub binary64 x b) (neg side) ≡ true
-  pub between : le (sub binary64 (sub binary64 x a) drift) (neg side) ≡ true
-
-pub record IsSpan (side a b u l size : Float) (s : Span) : Type 0 where
-  pub low : 0 < s .low → Below side a b (down u l) (edgeOf size (s .low - 1))
-  pub high : s .high < 4294967295 → Above side a b (up u l) (edgeOf size (s .high + 1))
-  pub range : s .low < 4294967296

@@ -6,3 +6,4 @@ mod meets;
 pub mod near;
 pub mod plane;
 pub mod search;
+mod spans;

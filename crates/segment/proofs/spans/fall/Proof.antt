@@ -1,8 +1,8 @@
--- `many::fall` is the definition's two cases. Assumes nothing.
+-- `spans::fall` is the definition's two cases. Assumes nothing.
 use lib.Ieee.{ofBits}
 use mathlib.Core.Path.{refl}
-use Rattle.segment.proofs.many.fall.Statement.{statement}
-use Rattle.segment.proofs.many.fall.Tie as tie
+use Rattle.segment.proofs.spans.fall.Statement.{statement}
+use Rattle.segment.proofs.spans.fall.Tie as tie
 
 returns : tie.Need-returns
 unfolding ofBits

@@ -1,12 +1,12 @@
--- `many::span_of` puts the two bounds together. Assumes nothing.
+-- `spans::span_of` puts the two bounds together. Assumes nothing.
 use Prim.Native.Nat.{_+_, _-_}
 use borrow.Author.Needs.{needs}
 use lib.Ieee.{Float}
 use mathlib.Core.Path.{subst}
-use Rattle.segment.specs.Many.{Above, Below}
+use Rattle.segment.specs.Spans.{Above, Below}
 use Rattle.segment.specs.Near.{edgeOf}
-use Rattle.segment.proofs.many.span_of.Statement.{statement}
-use Rattle.segment.proofs.many.span_of.Tie as tie
+use Rattle.segment.proofs.spans.span_of.Statement.{statement}
+use Rattle.segment.proofs.spans.span_of.Tie as tie
 
 fall-requires : tie.Need-fall-requires
 fall-requires c κs = search needs

@@ -1,8 +1,8 @@
--- `many::wide`: five comparisons, each yes. Assumes nothing.
+-- `spans::wide`: five comparisons, each yes. Assumes nothing.
 use lib.Ieee.{ofBits}
 use mathlib.Core.Bool.{false≢true}
-use Rattle.segment.proofs.many.wide.Statement.{statement}
-use Rattle.segment.proofs.many.wide.Tie as tie
+use Rattle.segment.proofs.spans.wide.Statement.{statement}
+use Rattle.segment.proofs.spans.wide.Tie as tie
 
 returns : tie.Need-returns
 unfolding ofBits

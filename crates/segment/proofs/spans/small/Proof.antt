@@ -1,8 +1,8 @@
--- `many::small`: both comparisons were yes. Assumes nothing.
+-- `spans::small`: both comparisons were yes. Assumes nothing.
 use lib.Ieee.{neg, ofBits}
 use mathlib.Core.Bool.{false≢true}
-use Rattle.segment.proofs.many.small.Statement.{statement}
-use Rattle.segment.proofs.many.small.Tie as tie
+use Rattle.segment.proofs.spans.small.Statement.{statement}
+use Rattle.segment.proofs.spans.small.Tie as tie
 
 returns : tie.Need-returns
 unfolding ofBits neg

@@ -1,11 +1,11 @@
--- `many::last`: the bound is returned where it was seen to hold. Assumes nothing.
+-- `spans::last`: the bound is returned where it was seen to hold. Assumes nothing.
 use borrow.Author.Needs.{needs}
 use lib.Ieee.{Float}
 use mathlib.Core.Path.{subst}
 use native.Mathlib.Omega.{arith}
-use Rattle.segment.specs.Many.{Above}
-use Rattle.segment.proofs.many.last.Statement.{statement}
-use Rattle.segment.proofs.many.last.Tie as tie
+use Rattle.segment.specs.Spans.{Above}
+use Rattle.segment.proofs.spans.last.Statement.{statement}
+use Rattle.segment.proofs.spans.last.Tie as tie
 
 max-requires : tie.Need-max-requires
 max-requires c κs = search needs

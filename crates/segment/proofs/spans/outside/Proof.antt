@@ -1,10 +1,10 @@
--- `many::outside`: the top bit of either difference. Assumes nothing.
+-- `spans::outside`: the top bit of either difference. Assumes nothing.
 use borrow.Author.Needs.{needs}
 use native.Mathlib.Omega.{arith}
 use mathlib.Core.Path.{refl, _∙_}
 use Rattle.segment.proofs.SpanLaws.{wrapped-sign, or-sign}
-use Rattle.segment.proofs.many.outside.Statement.{statement}
-use Rattle.segment.proofs.many.outside.Tie as tie
+use Rattle.segment.proofs.spans.outside.Statement.{statement}
+use Rattle.segment.proofs.spans.outside.Tie as tie
 
 wrapping-sub-u64-requires : tie.Need-wrapping-sub-u64-requires
 wrapping-sub-u64-requires c κs = search needs

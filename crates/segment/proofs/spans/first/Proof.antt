@@ -1,4 +1,4 @@
--- `many::first`: the bound is returned where it was seen to hold. Assumes nothing.
+-- `spans::first`: the bound is returned where it was seen to hold. Assumes nothing.
 use Prim.Native.Nat.{_<_, _^_}
 use Rattle.ieee.proofs.Bias.{biased-lt}
 use Rattle.ieee.specs.Whole.{floorZ}
@@ -6,9 +6,9 @@ use borrow.Author.Needs.{needs}
 use lib.Ieee.{Float}
 use mathlib.Core.Path.{subst}
 use native.Mathlib.Omega.{arith}
-use Rattle.segment.specs.Many.{Below}
-use Rattle.segment.proofs.many.first.Statement.{statement}
-use Rattle.segment.proofs.many.first.Tie as tie
+use Rattle.segment.specs.Spans.{Below}
+use Rattle.segment.proofs.spans.first.Statement.{statement}
+use Rattle.segment.proofs.spans.first.Tie as tie
 
 min-requires : tie.Need-min-requires
 min-requires c κs = search needs

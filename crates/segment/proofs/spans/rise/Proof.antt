@@ -1,8 +1,8 @@
--- `many::rise` is the definition's two cases. Assumes nothing.
+-- `spans::rise` is the definition's two cases. Assumes nothing.
 use lib.Ieee.{ofBits}
 use mathlib.Core.Path.{refl}
-use Rattle.segment.proofs.many.rise.Statement.{statement}
-use Rattle.segment.proofs.many.rise.Tie as tie
+use Rattle.segment.proofs.spans.rise.Statement.{statement}
+use Rattle.segment.proofs.spans.rise.Tie as tie
 
 returns : tie.Need-returns
 unfolding ofBits

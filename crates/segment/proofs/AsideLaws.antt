@@ -18,7 +18,7 @@ use Rattle.ieee.proofs.Monotone.{le-trans, not-lt-le, not-below-le, neg-anti, n
 use Rattle.ieee.proofs.MonotoneSum.{sub-both, sub-mono, sub-anti, add-number, sub-number, add-above-left, add-above-right}
 use Rattle.ieee.proofs.MonotoneProduct.{mul-mono, mul-anti, mul-commutes, mul-neg, mul-number, square-high, square-mono, square-anti}
 use Rattle.model.specs.Plane.{Pt, minus, times, dot, tiny}
-use Rattle.segment.specs.Many.{Small, SmallLine, up, down, Above, Below}
+use Rattle.segment.specs.Spans.{Small, SmallLine, up, down, Above, Below}
 use Rattle.segment.specs.Near.{edgeOf}
 use Rattle.segment.specs.Squared.{squared}
 use Rattle.segment.specs.Values.{pt, vec}

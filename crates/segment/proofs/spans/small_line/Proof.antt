@@ -1,8 +1,8 @@
--- `many::small_line`: seven values, each small. Assumes nothing.
+-- `spans::small_line`: seven values, each small. Assumes nothing.
 use borrow.Author.Needs.{needs}
 use mathlib.Core.Bool.{false≢true}
-use Rattle.segment.proofs.many.small_line.Statement.{statement}
-use Rattle.segment.proofs.many.small_line.Tie as tie
+use Rattle.segment.proofs.spans.small_line.Statement.{statement}
+use Rattle.segment.proofs.spans.small_line.Tie as tie
 
 small-requires : tie.Need-small-requires
 small-requires c κs = search needs
