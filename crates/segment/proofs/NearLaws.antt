@@ -4,8 +4,10 @@ use native.Mathlib.Omega.{arith}
 use mathlib.Core.Path.{_≡_, refl, sym, ap, _∙_}
 use mathlib.Core.Bool.{Bool, true, false}
 use mathlib.Core.List.{List, [], _∷_, map}
-use lib.Ieee.{Float, binary64, add, mul, lt, le}
+use lib.Ieee.{Float, binary64, add, mul, lt, le, fits}
+use lib.Dec.{T}
 use Rattle.ieee.specs.Threshold.{Threshold}
+use Rattle.ieee.proofs.Thresholds.{threshold-one}
 use lib.IntN.{pos}
 use lib.ListN.{drop}
 use Rattle.model.specs.Plane.{Pt, bound, lowCorner}
@@ -38,6 +40,11 @@ unfolding passesNear nearBy measuredOf
 near-is s g k c r h =
     let far : Threshold (add binary64 r (mul binary64 bound (g .size))) (g .far) = rw (h .size) (h .far) in
     rw (← h .size) (corners-decided s r _ (g .near) (g .far) (h .near) far _ _)
+
+-- there is one `Proximity` for a size and a radius
+pub proximity-one : (c r : Float) (g h : Proximity) → T (fits binary64 (g .near)) → T (fits binary64 (h .near)) → T (fits binary64 (g .far)) → T (fits binary64 (h .far)) → IsProximity c r g → IsProximity c r h → g ≡ h
+proximity-one c r g h gn hn gf hf p q =
+    rw (p .size ∙ sym (q .size), p .limit ∙ sym (q .limit), threshold-one r (g .near) (h .near) gn hn (p .near) (q .near), threshold-one _ (g .far) (h .far) gf hf (p .far) (q .far)) refl
 
 -- ---- corner by corner: where the first i decided nothing
 module _ (m : Measured) (g : Proximity) (k : ℕ) where

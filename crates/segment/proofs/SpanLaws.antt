@@ -17,7 +17,7 @@ use Rattle.model.specs.Segment.{passesNear}
 use Rattle.segment.specs.Many.{inSpan, inSpans, Ready}
 use Rattle.segment.specs.Spans.{Small, SmallLine, Wide, IsSpan}
 use Rattle.segment.specs.Near.{IsProximity, edgeOf, decided, nearBy}
-use Rattle.segment.specs.Squared.{squared}
+use Rattle.segment.specs.Squared.{measuredOf, squared}
 use Rattle.segment.specs.Values.{pt, seg, vec}
 use Rattle.segment.specs.declared.line.LineSegment.{LineSegment}
 use Rattle.segment.specs.declared.many.NearTest.{NearTest}
@@ -137,13 +137,22 @@ module _ (m : Measured) (g : Proximity) (side : Float) (sl : SmallLine m) (wd : 
 pub all-inside : (k : ℕ) → k < 2 ^ 64 → (leb 0 (k / 4294967296) && leb (k / 4294967296) 4294967295 && (leb 0 (k % 4294967296) && leb (k % 4294967296) 4294967295)) ≡ true
 all-inside k h = rw (le-leb 0 (k / 4294967296) (omega arith), le-leb (k / 4294967296) 4294967295 (omega arith), le-leb 0 (k % 4294967296) (omega arith), le-leb (k % 4294967296) 4294967295 (omega arith)) refl
 
--- the theorem: a prepared test answers as the Rust's near test does
-pub prepared-near : (s : LineSegment) (g : Proximity) (t : NearTest) (k : ℕ) (c r : Float) → k < 2 ^ 64 → Ready s g t → IsProximity c r g → (inSpans t k && nearBy (t .line) (t .reach) k) ≡ passesNear (seg s) k c r
-prepared-near s g t k c r h d i = go (inSpans t k) refl
+-- what a prepared test answers: the spans do not show
+pub prepared-answer : (s : LineSegment) (g : Proximity) (t : NearTest) (k : ℕ) → k < 2 ^ 64 → Ready s g t → (inSpans t k && nearBy (t .line) (t .reach) k) ≡ nearBy (measuredOf s) g k
+prepared-answer s g t k h d = go (inSpans t k) refl
   where
-    answer : nearBy (t .line) g k ≡ passesNear (seg s) k c r
-    answer = ap (λ (m : Measured). nearBy m g k) (d .line) ∙ sym (near-is s g k c r i)
+    answer : nearBy (t .line) g k ≡ nearBy (measuredOf s) g k
+    answer = ap (λ (m : Measured). nearBy m g k) (d .line)
 
-    go : (b : Bool) → inSpans t k ≡ b → (b && nearBy (t .line) (t .reach) k) ≡ passesNear (seg s) k c r
+    go : (b : Bool) → inSpans t k ≡ b → (b && nearBy (t .line) (t .reach) k) ≡ nearBy (measuredOf s) g k
     go true e = ap (λ (q : Proximity). nearBy (t .line) q k) (d .reach) ∙ answer
     go false e = sym (d .outside k h e) ∙ answer
+
+-- any two tests that are prepared for one segment answer alike
+pub prepared-same : (s : LineSegment) (g : Proximity) (t u : NearTest) (k : ℕ) → k < 2 ^ 64 → Ready s g t → Ready s g u
+    → (inSpans t k && nearBy (t .line) (t .reach) k) ≡ (inSpans u k && nearBy (u .line) (u .reach) k)
+prepared-same s g t u k h d e = prepared-answer s g t k h d ∙ sym (prepared-answer s g u k h e)
+
+-- the theorem: a prepared test answers as the Rust's near test does
+pub prepared-near : (s : LineSegment) (g : Proximity) (t : NearTest) (k : ℕ) (c r : Float) → k < 2 ^ 64 → Ready s g t → IsProximity c r g → (inSpans t k && nearBy (t .line) (t .reach) k) ≡ passesNear (seg s) k c r
+prepared-near s g t k c r h d i = prepared-answer s g t k h d ∙ sym (near-is s g k c r i)
