@@ -1,4 +1,5 @@
 // Points, vectors and segments of floats (the Rust's occupancy/util.rs), step for step.
+pub mod cell;
 pub mod line;
 pub mod many;
 mod measured;

@@ -1,16 +1,13 @@
 // The near test: whether a segment passes near a cell. No root is taken for a corner: its square is
 // compared with the root's thresholds, which are worked out once.
+use crate::cell::corner;
 use crate::line::LineSegment;
 use crate::measured::Measured;
 use crate::meets;
-use crate::plane::Point;
 ghost use mathlib.Core.Path.{_≡_};
-ghost use Prim.Native.Nat.{_≤_};
-ghost use lib.IntN.{pos};
-ghost use Rattle.model.specs.Plane.{lowCorner};
 ghost use Rattle.model.specs.Segment.{passesNear};
-ghost use Rattle.segment.specs.Near.{IsProximity, edgeOf, nearBy};
-ghost use Rattle.segment.specs.Values.{pt, seg};
+ghost use Rattle.segment.specs.Near.{IsProximity, nearBy};
+ghost use Rattle.segment.specs.Values.{seg};
 
 // A cell size and a radius as the near test needs them: a corner whose square is below `near` is
 // nearer than the radius, and one whose square is `far` or above is at the limit or beyond it, too far
@@ -20,25 +17,6 @@ pub struct Proximity {
     pub limit: f64,
     pub near: f64,
     pub far: f64,
-}
-
-// Where the column or row n begins. The sum is at most 2 ^ 31 in size, and so the cast exact.
-pub(crate) fn edge(n: u64, size: f64) -> f64
-    requires { ⌜ n ≤ 4294967296 ⌝ }
-    ensures { λ r. ⌜ r ≡ edgeOf size n ⌝ }
-{
-    size * ((n as i64 - 2147483648) as f64)
-}
-
-// The Rust's `cell.shifted(i, j).bottom_left_point(size)`.
-fn corner(cell: u64, i: u64, j: u64, size: f64) -> Point
-    requires { ⌜ (i ≤ 1) × (j ≤ 1) ⌝ }
-    ensures { λ r. ⌜ pt r ≡ lowCorner size cell (pos i) (pos j) ⌝ }
-{
-    Point {
-        x: edge(cell / 4294967296 + i, size),
-        y: edge(cell % 4294967296 + j, size),
-    }
 }
 
 impl Proximity {

@@ -1,6 +1,6 @@
-// Points and vectors of floats by value (nalgebra's Point2 and Vector2), and where a cell lies.
+// Points and vectors of floats by value (nalgebra's Point2 and Vector2).
 ghost use mathlib.Core.Path.{_≡_};
-ghost use Rattle.model.specs.Plane.{minus, times, over, dot, norm};
+ghost use Rattle.model.specs.Plane.{plus, minus, times, over, dot, norm, turned};
 ghost use Rattle.segment.specs.Values.{pt, vec};
 
 pub struct Point {
@@ -15,7 +15,7 @@ pub struct Vector {
 
 impl Point {
     // The vector from `other` to this point.
-    pub(crate) fn minus(self, other: Point) -> Vector
+    pub fn minus(self, other: Point) -> Vector
         ensures { λ r. ⌜ vec r ≡ minus (pt self) (pt other) ⌝ }
     {
         Vector {
@@ -23,19 +23,38 @@ impl Point {
             y: self.y - other.y,
         }
     }
-}
 
-impl Vector {
-    pub(crate) fn minus(self, other: Vector) -> Vector
-        ensures { λ r. ⌜ vec r ≡ minus (vec self) (vec other) ⌝ }
+    pub fn plus(self, v: Vector) -> Point
+        ensures { λ r. ⌜ pt r ≡ plus (pt self) (vec v) ⌝ }
     {
-        Vector {
-            x: self.x - other.x,
-            y: self.y - other.y,
+        Point {
+            x: self.x + v.x,
+            y: self.y + v.y,
         }
     }
 
-    pub(crate) fn times(self, factor: f64) -> Vector
+    // The point from which v leads to this one.
+    pub fn less(self, v: Vector) -> Point
+        ensures { λ r. ⌜ pt r ≡ minus (pt self) (vec v) ⌝ }
+    {
+        Point {
+            x: self.x - v.x,
+            y: self.y - v.y,
+        }
+    }
+}
+
+impl Vector {
+    pub(crate) fn minus(self, v: Vector) -> Vector
+        ensures { λ r. ⌜ vec r ≡ minus (vec self) (vec v) ⌝ }
+    {
+        Vector {
+            x: self.x - v.x,
+            y: self.y - v.y,
+        }
+    }
+
+    pub fn times(self, factor: f64) -> Vector
         ensures { λ r. ⌜ vec r ≡ times (vec self) factor ⌝ }
     {
         Vector {
@@ -44,7 +63,7 @@ impl Vector {
         }
     }
 
-    pub(crate) fn over(self, divisor: f64) -> Vector
+    pub fn over(self, divisor: f64) -> Vector
         ensures { λ r. ⌜ vec r ≡ over (vec self) divisor ⌝ }
     {
         Vector {
@@ -53,15 +72,25 @@ impl Vector {
         }
     }
 
-    pub(crate) fn dot(self, other: Vector) -> f64
+    pub fn dot(self, other: Vector) -> f64
         ensures { λ r. ⌜ r ≡ dot (vec self) (vec other) ⌝ }
     {
         self.x * other.x + self.y * other.y
     }
 
-    pub(crate) fn norm(self) -> f64
+    pub fn norm(self) -> f64
         ensures { λ r. ⌜ r ≡ norm (vec self) ⌝ }
     {
         ieee::root::root(self.dot(self))
+    }
+
+    // A quarter turn to the left.
+    pub fn turned(self) -> Vector
+        ensures { λ r. ⌜ vec r ≡ turned (vec self) ⌝ }
+    {
+        Vector {
+            x: -self.y,
+            y: self.x,
+        }
     }
 }

@@ -1,16 +1,16 @@
--- `near::edge` multiplies by the column's number, which a float holds. Assumes nothing.
+-- `cell::column` is the column's number, which a float holds. Assumes nothing.
 use Rattle.ieee.specs.Whole.{unbias}
 use borrow.Author.Needs.{needs}
 use lib.Dec.{T}
-use lib.Ieee.{binary64, inFloat, mul, ofInt}
+use lib.Ieee.{binary64, inFloat, ofInt}
 use lib.IntN.{ℤ, pos, _-ℤ_}
 use mathlib.Core.Path.{_≡_, sym, ap, _∙_, subst}
 use mir.Syntax.{w64}
 use mir.Val.{SFits, toZ, ofZ}
 use mir.ValLaws.{toZ-ofZ}
 use Rattle.segment.proofs.CornerLaws.{column-back, column-fits, column-exact}
-use Rattle.segment.proofs.near.edge.Statement.{statement}
-use Rattle.segment.proofs.near.edge.Tie as tie
+use Rattle.segment.proofs.cell.column.Statement.{statement}
+use Rattle.segment.proofs.cell.column.Tie as tie
 
 cast-result : tie.Need-cast-result
 cast-result c = search needs
@@ -26,7 +26,7 @@ int-to-float-result : tie.Need-int-to-float-result
 int-to-float-result c = subst (λ (z : ℤ). T (inFloat binary64 z)) (sym (read (c .before))) (column-exact (c .before .args .n) (c .before .pre))
 
 returns : tie.Need-returns
-returns c = ap (λ (z : ℤ). mul binary64 (c .before .args .size) (ofInt binary64 z)) (read (c .before))
+returns c = ap (ofInt binary64) (read (c .before))
 
-pub edge-spec : {M : Type 1} → statement M
-edge-spec = tie.close (tie.spec cast-result sub-result int-to-float-result returns)
+pub column-spec : {M : Type 1} → statement M
+column-spec = tie.close (tie.spec cast-result sub-result int-to-float-result returns)

@@ -1,11 +1,11 @@
--- `near::corner` is the model's corner. Assumes nothing.
+-- `cell::corner` is the model's corner. Assumes nothing.
 use Prim.Native.Nat.{_/_, _%_}
 use Rattle.model.specs.Plane.{lowCorner}
 use borrow.Author.Needs.{needs}
 use mathlib.Core.Path.{refl}
 use Rattle.segment.proofs.CornerLaws.{column-next}
-use Rattle.segment.proofs.near.corner.Statement.{statement}
-use Rattle.segment.proofs.near.corner.Tie as tie
+use Rattle.segment.proofs.cell.corner.Statement.{statement}
+use Rattle.segment.proofs.cell.corner.Tie as tie
 
 add-edge : tie.Need-add-edge
 add-edge c = search needs

@@ -1,0 +1,3 @@
+-- The laws of crate `grid`.
+pub mod CircleLaws
+pub mod SweepLaws

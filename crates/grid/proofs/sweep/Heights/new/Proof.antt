@@ -1,0 +1,17 @@
+-- `Heights::new` has met nothing. Assumes nothing.
+use borrow.Author.Needs.{needs}
+use mathlib.Core.Path.{refl}
+use Rattle.grid.proofs.sweep.Heights.new.Statement.{statement}
+use Rattle.grid.proofs.sweep.Heights.new.Tie as tie
+
+new-requires : tie.Need-new-requires
+new-requires c κs = search needs
+
+new-requires-2 : tie.Need-new-requires-2
+new-requires-2 c κs = search needs
+
+returns : tie.Need-returns
+returns c = rw (c .before .new .ensures, c .new2 .ensures) refl
+
+pub new-spec : {M : Type 1} → statement M
+new-spec = tie.close (tie.spec new-requires new-requires-2 returns)

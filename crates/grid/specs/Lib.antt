@@ -1,0 +1,3 @@
+-- What the contracts of crate `grid` cite.
+pub mod Circle
+pub mod Sweep

@@ -1,0 +1,3 @@
+// Batches on cells, corners, and the one question with its four shapes (the Rust's sparse_grid.rs).
+mod circle;
+mod sweep;

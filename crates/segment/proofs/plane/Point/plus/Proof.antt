@@ -1,0 +1,12 @@
+-- `plane::Point::plus` is the model's `plus`, step for step. Assumes nothing.
+use mathlib.Core.Path.{refl}
+use Rattle.model.specs.Plane.{plus}
+use Rattle.segment.proofs.plane.Point.plus.Statement.{statement}
+use Rattle.segment.proofs.plane.Point.plus.Tie as tie
+
+returns : tie.Need-returns
+unfolding plus
+returns c = refl
+
+pub plus-spec : {M : Type 1} → statement M
+plus-spec = tie.close (tie.spec returns)
