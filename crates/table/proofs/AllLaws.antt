@@ -1,0 +1,35 @@
+-- What holds of every entry of a list. Assumes nothing.
+use Prim.Native.Nat.{ℕ, zero, suc, _≤_, _<_}
+use native.Mathlib.Nat.{le-of-suc-le-suc, not-suc-le-zero}
+use native.Mathlib.Omega.{arith}
+use mathlib.Core.List.{List, [], _∷_}
+use lib.ListN.{length, drop, getD}
+use Rattle.model.specs.Maps.{AscL}
+use Rattle.table.specs.Tables.{All}
+
+pub all-at : (P : ℕ → Type 0) (l : List ℕ) (i : ℕ) → All P l → i < length l → P (getD l i 0)
+all-at P [] i a h = absurd (not-suc-le-zero h)
+all-at P (x ∷ l) zero a h = a .0
+all-at P (x ∷ l) (suc i) a h = all-at P l i (a .1) (le-of-suc-le-suc h)
+
+pub all-from : (P : ℕ → Type 0) (l : List ℕ) → ((i : ℕ) → P (getD l i 0)) → All P l
+all-from P [] f = tt
+all-from P (x ∷ l) f = (f 0, all-from P l (λ i. f (suc i)))
+
+pub all-map : {P Q : ℕ → Type 0} (l : List ℕ) → ((x : ℕ) → P x → Q x) → All P l → All Q l
+all-map [] f a = tt
+all-map (x ∷ l) f a = (f x (a .0), all-map l f (a .1))
+
+-- ---- ascending lists
+pub ascL-down : (lo lo′ : ℕ) (l : List ℕ) → lo ≤ lo′ → AscL lo′ l → AscL lo l
+ascL-down lo lo′ [] h a = tt
+ascL-down lo lo′ (x ∷ l) h a = (omega arith, a .1)
+
+pub ascL-drop : (lo n : ℕ) (l : List ℕ) → AscL lo l → AscL lo (drop n l)
+ascL-drop lo zero l a = a
+ascL-drop lo (suc n) [] a = tt
+ascL-drop lo (suc n) (x ∷ l) a = ascL-down lo (suc x) (drop n l) (omega arith) (ascL-drop (suc x) n l (a .1))
+
+pub ascL-all : (lo : ℕ) (l : List ℕ) → AscL lo l → All (λ x. lo ≤ x) l
+ascL-all lo [] a = tt
+ascL-all lo (x ∷ l) a = (a .0, all-map l (λ y h. omega arith) (ascL-all (suc x) l (a .1)))

@@ -1,0 +1,8 @@
+-- The laws of crate `table`.
+pub mod AllLaws
+pub mod ColumnLaws
+pub mod LookLaws
+pub mod RankLaws
+pub mod ShiftLaws
+pub mod SiftLaws
+pub mod TableLaws

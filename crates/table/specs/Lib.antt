@@ -1,0 +1,3 @@
+-- What the contracts of crate `table` cite.
+pub mod Columns
+pub mod Tables

@@ -1,0 +1,36 @@
+// Where a key stands in a table.
+ghost use mathlib.Core.Path.{_≡_};
+ghost use Prim.Native.Nat.{_≤_};
+ghost use lib.ListN.{length};
+ghost use Rattle.model.specs.Maps.{AscL, has};
+ghost use Rattle.table.specs.Tables.{rank, stands};
+
+// How many keys are below k: where k stands, or would stand. That is never more than n places after `at`,
+// and n is halved whatever the test says.
+pub fn place(t: &[u64], k: u64) -> usize
+    ensures { λ r. ⌜ (r ≤ length (now (t .entry))) × (AscL 0 (now (t .entry)) → r ≡ rank k (now (t .entry))) ⌝ }
+{
+    let mut at = 0;
+    let mut n = t.len();
+    while 0 < n {
+        let mid = at + (n - 1) / 2;
+        if t[mid] < k {
+            at = mid + 1;
+        }
+        n = n / 2;
+    }
+    at
+}
+
+// Whether k is the key at a place.
+pub(crate) fn stands_at(t: &[u64], at: usize, k: u64) -> bool
+    ensures { λ r. ⌜ r ≡ stands k at (now (t .entry)) ⌝ }
+{
+    if at < t.len() { k == t[at] } else { false }
+}
+
+pub fn contains(t: &[u64], k: u64) -> bool
+    ensures { λ r. ⌜ (AscL 0 (now (t .entry)) → r ≡ has k (now (t .entry))) ⌝ }
+{
+    stands_at(t, place(t, k), k)
+}
