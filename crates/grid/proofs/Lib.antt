@@ -1,3 +1,4 @@
 -- The laws of crate `grid`.
 pub mod CircleLaws
+pub mod CornersLaws
 pub mod SweepLaws
