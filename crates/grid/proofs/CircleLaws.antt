@@ -7,7 +7,7 @@ use lib.Ieee.{Float, lt, le}
 use Rattle.ieee.specs.Constants.{nought}
 use Rattle.model.specs.Plane.{Pt, plus, minus, times, over, dot, norm, centre, lowCorner}
 use Rattle.model.specs.Shape.{inBox, pointInside, lineInside, inCircle}
-use Rattle.segment.specs.Values.{pt}
+use Rattle.plane.specs.Values.{pt}
 use Rattle.grid.specs.Circle.{circleOf, pointWithin, lineWithin, sidesWithin, circleMeets}
 use Rattle.grid.specs.declared.circle.Circle.{Circle}
 

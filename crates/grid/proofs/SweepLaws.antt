@@ -17,10 +17,10 @@ use Rattle.model.specs.Plane.{Pt}
 use Rattle.model.specs.Segment.{Seg, checkMin, checkMax, verticalAt}
 use Rattle.model.specs.Shape.{Strip, from, ends, sides, leftmost, rightmost, endsIn, sidesAt, search, rowIn, inColumn, inStrip}
 use Rattle.segment.specs.Crossing.{places, values}
-use Rattle.segment.specs.Near.{edgeOf}
+use Rattle.plane.specs.Values.{edgeOf}
 use Rattle.segment.specs.Search.{held, kept}
 use Rattle.segment.specs.declared.line.Crossings.{Crossings}
-use Rattle.segment.proofs.CornerLaws.{column-next}
+use Rattle.plane.proofs.CornerLaws.{column-next}
 use Rattle.segment.proofs.CrossingLaws.{places-hold}
 use Rattle.grid.specs.Sweep.{met, unmet, noRows, rowsBetween, heightsOf, rowsOf, inRows, columnsOf, inColumns}
 use Rattle.grid.specs.declared.sweep.Heights.{Heights}

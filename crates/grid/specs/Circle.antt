@@ -5,7 +5,7 @@ use lib.IntN.{ℤ, pos}
 use lib.Ieee.{Float, binary64, add, mul, div, lt, le}
 use Rattle.ieee.specs.Constants.{nought, pow2}
 use Rattle.model.specs.Plane.{Pt, plus, minus, times, over, dot, norm, root2, centre, lowCorner}
-use Rattle.segment.specs.Values.{pt}
+use Rattle.plane.specs.Values.{pt}
 use Rattle.grid.specs.declared.circle.Circle.{Circle}
 
 unfoldable pub circleOf : Float → Pt → Float → Circle

@@ -13,7 +13,7 @@ use Rattle.model.specs.Segment.{checkMin, checkMax}
 use Rattle.model.specs.Shape.{ends, sides, leftmost, rightmost, endsIn, sidesAt, search}
 use Rattle.model.specs.Shape as model
 use Rattle.segment.specs.Search.{held, kept}
-use Rattle.segment.specs.Values.{pt}
+use Rattle.plane.specs.Values.{pt}
 use Rattle.grid.specs.declared.sweep.Columns.{Columns}
 use Rattle.grid.specs.declared.sweep.Heights.{Heights}
 use Rattle.grid.specs.declared.sweep.Rows.{Rows}

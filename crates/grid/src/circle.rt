@@ -1,9 +1,9 @@
 // The circle test of one cell: `is_circle_occupied`, past the ranges of its loops.
-use segment::cell;
-use segment::plane::Point;
-use segment::plane::Vector;
+use plane::cell;
+use plane::point::Point;
+use plane::point::Vector;
 ghost use mathlib.Core.Path.{_≡_};
-ghost use Rattle.segment.specs.Values.{pt, vec};
+ghost use Rattle.plane.specs.Values.{pt, vec};
 ghost use Rattle.grid.specs.Circle.{circleOf, pointWithin, lineWithin, facing, sidesWithin, circleMeets};
 
 // What is the same for all cells. `square` is the radius's square. A cell whose centre's distance has a

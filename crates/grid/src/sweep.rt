@@ -1,15 +1,15 @@
 // The sweep test without its tables: the strip that a segment of some width sweeps, the columns that it
 // spans, and its rows in one column.
-use segment::cell;
+use plane::cell;
+use plane::point::Point;
 use segment::line::LineSegment;
-use segment::plane::Point;
 use segment::search::SearchF64;
 ghost use mathlib.Core.Path.{_≡_};
 ghost use mathlib.Core.List.{[], _∷_};
 ghost use Rattle.model.specs.Segment.{verticalAt};
 ghost use Rattle.model.specs.Shape.{stripOf, ends, sides, lesser, greater, leftmost, rightmost, endsIn, sidesAt};
 ghost use Rattle.segment.specs.Search.{held};
-ghost use Rattle.segment.specs.Values.{pt};
+ghost use Rattle.plane.specs.Values.{pt};
 ghost use Rattle.grid.specs.Sweep.{strip, met, unmet, noRows, rowsBetween, rowsOf, columnsOf};
 
 // The corners: beside the first point to the left and to the right, then beside the second.

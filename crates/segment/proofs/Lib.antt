@@ -1,6 +1,5 @@
 -- The laws of crate `segment`.
 pub mod AsideLaws
-pub mod CornerLaws
 pub mod CrossingLaws
 pub mod MeetsLaws
 pub mod NearLaws

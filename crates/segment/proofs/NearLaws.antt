@@ -49,7 +49,7 @@ proximity-one c r g h gn hn gf hf p q =
 -- ---- corner by corner: where the first i decided nothing
 module _ (m : Measured) (g : Proximity) (k : ℕ) where
   abbrev place : ℕ → Pt
-  place i = lowCorner (g .size) k (pos (i / 2)) (pos (i % 2))
+  place i = lowCorner (g .size) k (pos (i / 2 % 2)) (pos (i % 2))
 
   abbrev squares : List Float
   squares = squared m (place 0) ∷ squared m (place 1) ∷ squared m (place 2) ∷ squared m (place 3) ∷ []

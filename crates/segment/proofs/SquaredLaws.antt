@@ -9,10 +9,11 @@ use Rattle.ieee.specs.Root.{rootF}
 use Rattle.model.specs.Plane.{Pt, minus, times, over, dot, norm, tiny}
 use Rattle.model.specs.Segment.{distance}
 use Rattle.segment.specs.Squared.{along, measuredOf, squared}
-use Rattle.segment.specs.Values.{pt, seg, vec}
+use Rattle.plane.specs.Values.{pt, vec}
+use Rattle.segment.specs.Values.{seg}
 use Rattle.segment.specs.declared.line.LineSegment.{LineSegment}
 use Rattle.segment.specs.declared.measured.Measured.{Measured}
-use Rattle.segment.specs.declared.plane.Vector.{Vector}
+use Rattle.plane.specs.declared.point.Vector.{Vector}
 use Rattle.segment.proofs.SumOfSquares.{dot-not-below}
 
 -- a segment with what was worked out of it

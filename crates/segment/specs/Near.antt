@@ -4,19 +4,14 @@ use mathlib.Core.Path.{_≡_}
 use mathlib.Core.Bool.{Bool, true, false, cond}
 use mathlib.Core.List.{List, [], _∷_}
 use lib.IntN.{pos}
-use lib.Ieee.{Float, binary64, add, mul, lt, le, ofInt}
+use lib.Ieee.{Float, binary64, add, mul, lt, le}
 use Rattle.ieee.specs.Threshold.{Threshold}
-use Rattle.ieee.specs.Whole.{unbias}
 use Rattle.model.specs.Plane.{bound, lowCorner}
 use Rattle.model.specs.Segment.{meets}
 use Rattle.segment.specs.Squared.{squared}
 use Rattle.segment.specs.Values.{seg}
 use Rattle.segment.specs.declared.measured.Measured.{Measured}
 use Rattle.segment.specs.declared.near.Proximity.{Proximity}
-
--- where column, or row, n begins
-abbrev pub edgeOf : Float → ℕ → Float
-edgeOf size n = mul binary64 size (ofInt binary64 (unbias n))
 
 -- the limits of `passes_near_cell` (occupancy/util.rs), each as the least square whose root reaches it
 pub record IsProximity (c r : Float) (g : Proximity) : Type 0 where

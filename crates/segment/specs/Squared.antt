@@ -4,7 +4,8 @@ use mathlib.Core.Bool.{cond}
 use lib.Ieee.{Float, lt}
 use Rattle.ieee.specs.Constants.{nought}
 use Rattle.model.specs.Plane.{Pt, minus, times, over, dot, norm, tiny}
-use Rattle.segment.specs.Values.{pt, seg, vec}
+use Rattle.plane.specs.Values.{pt, vec}
+use Rattle.segment.specs.Values.{seg}
 use Rattle.segment.specs.declared.line.LineSegment.{LineSegment}
 use Rattle.segment.specs.declared.measured.Measured.{Measured}
 

@@ -1,9 +1,10 @@
 // `LineSegment`: where it crosses an upright or a level line, and how far a point is from it.
-use crate::plane::Point;
+use plane::point::Point;
 ghost use mathlib.Core.Path.{_≡_};
 ghost use Rattle.model.specs.Segment.{mirrored, verticalAt, horizontalAt};
 ghost use Rattle.segment.specs.Crossing.{places};
-ghost use Rattle.segment.specs.Values.{pt, seg};
+ghost use Rattle.plane.specs.Values.{pt};
+ghost use Rattle.segment.specs.Values.{seg};
 
 pub struct LineSegment {
     pub p0: Point,

@@ -1,11 +1,12 @@
 // How far a point is from a segment. The segment's length and direction are worked out once, where the
 // Rust takes them anew for every point: the same bits.
 use crate::line::LineSegment;
-use crate::plane::Point;
-use crate::plane::Vector;
+use plane::point::Point;
+use plane::point::Vector;
 ghost use mathlib.Core.Path.{_≡_};
 ghost use Rattle.model.specs.Segment.{distance};
-ghost use Rattle.segment.specs.Values.{pt, seg};
+ghost use Rattle.plane.specs.Values.{pt};
+ghost use Rattle.segment.specs.Values.{seg};
 ghost use Rattle.segment.specs.Squared.{measuredOf, squared};
 
 pub(crate) struct Measured {

@@ -1,13 +1,14 @@
 // The last steps of the near test: whether a segment meets the inside of a cell.
 use crate::line::Crossings;
 use crate::line::LineSegment;
-use crate::plane::Point;
+use plane::point::Point;
 ghost use mathlib.Core.Path.{_≡_};
 ghost use mathlib.Core.Bool.{_&&_};
 ghost use lib.Ieee.{lt};
 ghost use Rattle.model.specs.Segment.{between, meets};
 ghost use Rattle.segment.specs.Crossing.{values};
-ghost use Rattle.segment.specs.Values.{pt, seg};
+ghost use Rattle.plane.specs.Values.{pt};
+ghost use Rattle.segment.specs.Values.{seg};
 
 // Whether v lies strictly between.
 fn within(low: f64, v: f64, high: f64) -> bool

@@ -1,9 +1,9 @@
 // The near test: whether a segment passes near a cell. No root is taken for a corner: its square is
 // compared with the root's thresholds, which are worked out once.
-use crate::cell::corner;
 use crate::line::LineSegment;
 use crate::measured::Measured;
 use crate::meets;
+use plane::cell::corner;
 ghost use mathlib.Core.Path.{_≡_};
 ghost use Rattle.model.specs.Segment.{passesNear};
 ghost use Rattle.segment.specs.Near.{IsProximity, nearBy};
@@ -42,7 +42,7 @@ impl Measured {
         let size = reach.size;
         let mut i = 0;
         while i < 4 {
-            let q = self.square_to(corner(cell, i / 2, i % 2, size));
+            let q = self.square_to(corner(cell, i, size));
             if q < reach.near {
                 return true;
             }
@@ -52,7 +52,7 @@ impl Measured {
             i += 1;
         }
         let s = self.segment;
-        meets::meets_cell(s, corner(cell, 0, 0, size), corner(cell, 1, 1, size))
+        meets::meets_cell(s, corner(cell, 0, size), corner(cell, 3, size))
     }
 }
 

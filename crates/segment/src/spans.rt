@@ -1,15 +1,15 @@
 // Which columns and rows lie so far aside of a segment that no cell there is near. Each bound is a
 // guess, of which nothing is promised, until the near test's own steps are seen to hold there; further
 // out they hold the more, since every step is monotone.
-use crate::cell::edge;
 use crate::measured::Measured;
 use crate::near::Proximity;
+use plane::cell::begins;
 use std::num::wrapping_sub_u64;
 ghost use mathlib.Core.Path.{_≡_};
 ghost use mathlib.Core.Bool.{true, _&&_};
 ghost use Prim.Native.Nat.{_+_, _-_, _<_};
 ghost use lib.Dec.{leb, ltb};
-ghost use Rattle.segment.specs.Near.{edgeOf};
+ghost use Rattle.plane.specs.Values.{edgeOf};
 ghost use Rattle.segment.specs.Spans.{Above, Below, IsSpan, Small, SmallLine, Wide, down, up};
 
 // The columns, or rows, that are to be looked at, both ends included.
@@ -62,7 +62,7 @@ fn last(side: f64, a: f64, b: f64, drift: f64, size: f64) -> u32
     let n = ieee::whole::column_of((ieee::pick::max(a, b) + side) / size);
     if n < 4294967294 {
         let here = n + 1;
-        let x = edge(here + 1, size);
+        let x = begins((here + 1) as u32, size);
         if side <= x - a && side <= x - b && side <= x - a - drift {
             return here as u32;
         }
@@ -76,7 +76,7 @@ fn first(side: f64, a: f64, b: f64, drift: f64, size: f64) -> u32
 {
     let n = ieee::whole::column_of((ieee::pick::min(a, b) - side) / size);
     if 0 < n {
-        let x = edge(n - 1, size);
+        let x = begins((n - 1) as u32, size);
         if x - a <= -side && x - b <= -side && x - a - drift <= -side {
             return n as u32;
         }

@@ -1,8 +1,8 @@
 // The segments under C names, for Rust and C to call: benchmarks and comparisons go through here.
+use plane::point::Point;
 use segment::line::LineSegment;
 use segment::many::NearTest;
 use segment::near::Proximity;
-use segment::plane::Point;
 ghost use mathlib.Core.Path.{_≡_};
 ghost use lib.Dec.{leb};
 ghost use lib.ListN.{length};

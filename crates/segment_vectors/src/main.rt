@@ -11,9 +11,9 @@
 // An answer is how many values there are, then the first and the second, 0 where there is none. The near test
 // answers 1 or 0, and no value.
 use libc::STDOUT_FILENO;
+use plane::point::Point;
 use segment::line::Crossings;
 use segment::line::LineSegment;
-use segment::plane::Point;
 use segment::search::SearchF64;
 use vectors::float_at;
 use vectors::pattern_at;

@@ -5,7 +5,7 @@ use mathlib.Core.Bool.{false}
 use mathlib.Core.Path.{_≡_, sym, ap, _∙_}
 use Rattle.ieee.specs.Constants.{nought}
 use Rattle.model.specs.Plane.{Pt, plus, minus, times, over, dot, norm}
-use Rattle.segment.specs.Values.{pt, vec}
+use Rattle.plane.specs.Values.{pt, vec}
 use Rattle.grid.specs.Circle.{pointWithin}
 use Rattle.grid.proofs.CircleLaws.{lengthOf, unitOf, shadowOf, footOf, line-first, line-second, line-before, line-past, line-foot}
 use Rattle.grid.proofs.circle.line_inside.Statement.{statement}

@@ -2,7 +2,8 @@
 use borrow.Author.Needs.{needs}
 use mathlib.Core.Bool.{false}
 use mathlib.Core.Path.{_≡_, sym, _∙_}
-use Rattle.segment.specs.Values.{pt, seg}
+use Rattle.plane.specs.Values.{pt}
+use Rattle.segment.specs.Values.{seg}
 use Rattle.segment.proofs.MeetsLaws.{Inside, Upright, Level, upright-there, level-there, meets-1, meets-2, meets-3, meets-4, meets-5, meets-6}
 use Rattle.segment.proofs.meets.meets_cell.Statement.{statement}
 use Rattle.segment.proofs.meets.meets_cell.Tie as tie

@@ -20,11 +20,14 @@ column-of-requires c κs = search needs
 column : (c : tie.After-column-of) → c .column-of .result < 2 ^ 32
 column c = rw (c .column-of .ensures) (biased-lt (floorZ _))
 
-sub-edge : tie.Need-sub-edge
-sub-edge c = omega arith
+sub-begins : tie.Need-sub-begins
+sub-begins c = omega arith
 
-edge-requires : tie.Need-edge-requires
-edge-requires c κs = let k = column (c .before) in omega arith
+cast-begins : tie.Need-cast-begins
+cast-begins c = let k = column (c .before) in omega arith
+
+begins-requires : tie.Need-begins-requires
+begins-requires c κs = search needs
 
 cast-result : tie.Need-cast-result
 cast-result c = let k = column (c .before .before .before .before .before) in omega arith
@@ -33,7 +36,7 @@ returns : tie.Need-returns
 returns c =
     let a = c .before .before .before .before .before .before .before .args in
     let k = column (c .before .before .before .before .before) in (
-      λ h. subst (λ (x : Float). Below (a .side) (a .a) (a .b) (a .drift) x) (c .before .before .before .edge .ensures) (record { first = c .before .before .if2 .taken; second = c .before .if3 .taken; between = c .if4 .taken }),
+      λ h. subst (λ (x : Float). Below (a .side) (a .a) (a .b) (a .drift) x) (c .before .before .before .begins .ensures) (record { first = c .before .before .if2 .taken; second = c .before .if3 .taken; between = c .if4 .taken }),
       omega arith,
     )
 
@@ -44,4 +47,4 @@ returns-3 : tie.Need-returns-3
 returns-3 c = (λ h. absurd (omega arith), omega arith)
 
 pub first-spec : {M : Type 1} → statement M
-first-spec = tie.close (tie.spec min-requires column-of-requires sub-edge edge-requires cast-result returns returns-2 returns-3)
+first-spec = tie.close (tie.spec min-requires column-of-requires sub-begins cast-begins begins-requires cast-result returns returns-2 returns-3)

@@ -16,11 +16,14 @@ column-of-requires c κs = search needs
 add-here : tie.Need-add-here
 add-here c = omega arith
 
-add-edge : tie.Need-add-edge
-add-edge c = omega arith
+add-begins : tie.Need-add-begins
+add-begins c = omega arith
 
-edge-requires : tie.Need-edge-requires
-edge-requires c κs = omega arith
+cast-begins : tie.Need-cast-begins
+cast-begins c = omega arith
+
+begins-requires : tie.Need-begins-requires
+begins-requires c κs = search needs
 
 cast-result : tie.Need-cast-result
 cast-result c = omega arith
@@ -28,7 +31,7 @@ cast-result c = omega arith
 returns : tie.Need-returns
 returns c =
     let a = c .before .before .before .before .before .before .before .args in
-    λ h. subst (λ (x : Float). Above (a .side) (a .a) (a .b) (a .drift) x) (c .before .before .before .edge .ensures) (record { first = c .before .before .if2 .taken; second = c .before .if3 .taken; between = c .if4 .taken })
+    λ h. subst (λ (x : Float). Above (a .side) (a .a) (a .b) (a .drift) x) (c .before .before .before .begins .ensures) (record { first = c .before .before .if2 .taken; second = c .before .if3 .taken; between = c .if4 .taken })
 
 returns-2 : tie.Need-returns-2
 returns-2 c = λ h. absurd (omega arith)
@@ -37,4 +40,4 @@ returns-3 : tie.Need-returns-3
 returns-3 c = λ h. absurd (omega arith)
 
 pub last-spec : {M : Type 1} → statement M
-last-spec = tie.close (tie.spec max-requires column-of-requires add-here add-edge edge-requires cast-result returns returns-2 returns-3)
+last-spec = tie.close (tie.spec max-requires column-of-requires add-here add-begins cast-begins begins-requires cast-result returns returns-2 returns-3)

@@ -4,7 +4,7 @@ use lib.Ieee.{lt}
 use mathlib.Core.Bool.{false}
 use mathlib.Core.Path.{_≡_, ap, _∙_}
 use Rattle.model.specs.Plane.{Pt, minus, dot, centre}
-use Rattle.segment.specs.Values.{pt, vec}
+use Rattle.plane.specs.Values.{pt, vec}
 use Rattle.grid.proofs.CircleLaws.{meets-near, meets-far, meets-sides}
 use Rattle.grid.proofs.circle.Circle.meets.Statement.{statement}
 use Rattle.grid.proofs.circle.Circle.meets.Tie as tie

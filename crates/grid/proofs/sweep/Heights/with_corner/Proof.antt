@@ -4,7 +4,7 @@ use lib.Ieee.{le}
 use mathlib.Core.Bool.{and-false}
 use mathlib.Core.Logic.{⊎-elim}
 use mathlib.Core.Path.{refl, _∙_}
-use Rattle.segment.specs.Values.{pt}
+use Rattle.plane.specs.Values.{pt}
 use Rattle.grid.proofs.SweepLaws.{corner-in, corner-out}
 use Rattle.grid.proofs.sweep.Heights.with_corner.Statement.{statement}
 use Rattle.grid.proofs.sweep.Heights.with_corner.Tie as tie

@@ -4,7 +4,7 @@ use borrow.Author.Needs.{needs}
 use lib.Ieee.{Float}
 use mathlib.Core.Path.{sym, ap, _∙_}
 use Rattle.segment.specs.Squared.{squared}
-use Rattle.segment.specs.Values.{pt}
+use Rattle.plane.specs.Values.{pt}
 use Rattle.segment.specs.declared.measured.Measured.{Measured}
 use Rattle.segment.proofs.SquaredLaws.{distance-root}
 use Rattle.segment.proofs.line.LineSegment.distance_from_point.Statement.{statement}

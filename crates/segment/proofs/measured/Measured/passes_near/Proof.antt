@@ -19,7 +19,7 @@ loop-holds : tie.Need-loop-holds Inv-loop μ-loop
 loop-holds c = let a = c .args in (omega arith, open-all (a .self) (a .reach) (a .cell))
 
 corner-requires : tie.Need-corner-requires Inv-loop μ-loop
-corner-requires c κs = (omega arith, omega arith)
+corner-requires c κs = tt
 
 square-to-requires : tie.Need-square-to-requires Inv-loop μ-loop
 square-to-requires c κs = tt
@@ -28,7 +28,7 @@ square-to-requires c κs = tt
 square : (c : tie.After-square-to Inv-loop μ-loop)
     → let i = c .before .before .before .loop .i in
     let a = c .before .before .before .before .args in
-    c .square-to .result ≡ squared (a .self) (lowCorner (a .reach .size) (a .cell) (pos (i / 2)) (pos (i % 2)))
+    c .square-to .result ≡ squared (a .self) (lowCorner (a .reach .size) (a .cell) (pos (i / 2 % 2)) (pos (i % 2)))
 square c = c .square-to .ensures ∙ ap (λ (p : Pt). squared (c .before .before .before .before .args .self) p) (c .before .corner .ensures)
 
 returns : tie.Need-returns Inv-loop μ-loop
@@ -59,10 +59,10 @@ loop-again c =
     (omega arith, corner-open (a .self) (a .reach) (a .cell) (l .loop .i) (omega arith) (l .loop .inv .1) (s .square-to .result) (square s) (c .before .before .if1 .left) (c .if2 .left))
 
 corner-requires-2 : tie.Need-corner-requires-2 Inv-loop μ-loop
-corner-requires-2 c κs = (omega arith, omega arith)
+corner-requires-2 c κs = tt
 
 corner-requires-3 : tie.Need-corner-requires-3 Inv-loop μ-loop
-corner-requires-3 c κs = (omega arith, omega arith)
+corner-requires-3 c κs = tt
 
 meets-cell-requires : tie.Need-meets-cell-requires Inv-loop μ-loop
 meets-cell-requires c κs = tt

@@ -5,7 +5,7 @@ use mathlib.Core.Bool.{false}
 use mathlib.Core.Path.{_≡_, sym, ap, _∙_}
 use Rattle.ieee.specs.Constants.{nought}
 use Rattle.model.specs.Plane.{Pt, minus, times, dot, tiny}
-use Rattle.segment.specs.Values.{pt, vec}
+use Rattle.plane.specs.Values.{pt, vec}
 use Rattle.segment.proofs.SquaredLaws.{square-short, square-before, square-past, square-within}
 use Rattle.segment.proofs.measured.Measured.square_to.Statement.{statement}
 use Rattle.segment.proofs.measured.Measured.square_to.Tie as tie

@@ -1,0 +1,2 @@
+-- The laws of crate `plane`.
+pub mod CornerLaws

@@ -1,0 +1,21 @@
+-- `point::Vector::norm` is the root of the product with itself. Assumes nothing.
+use Rattle.ieee.specs.Root.{rootF}
+use Rattle.model.specs.Plane.{norm}
+use borrow.Author.Needs.{needs}
+use lib.Ieee.{Float}
+use mathlib.Core.Path.{ap, _∙_}
+use Rattle.plane.proofs.point.Vector.norm.Statement.{statement}
+use Rattle.plane.proofs.point.Vector.norm.Tie as tie
+
+dot-requires : tie.Need-dot-requires
+dot-requires c κs = search needs
+
+root-requires : tie.Need-root-requires
+root-requires c κs = search needs
+
+returns : tie.Need-returns
+unfolding norm
+returns c = c .root .ensures ∙ ap (λ (x : Float). rootF x) (c .before .dot .ensures)
+
+pub norm-spec : {M : Type 1} → statement M
+norm-spec = tie.close (tie.spec dot-requires root-requires returns)

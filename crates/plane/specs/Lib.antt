@@ -1,0 +1,2 @@
+-- What the contracts of crate `plane` cite.
+pub mod Values
