@@ -2,11 +2,13 @@
 // operands of sixteen hexadecimal digits, and the answer's digits behind it on standard output.
 use libc::STDIN_FILENO;
 use libc::STDOUT_FILENO;
+ghost use mathlib.Core.Path.{_≡_};
 ghost use Prim.Native.Nat.{_<_};
+ghost use Rattle.vectors.specs.Vectors.{digitOf, patternAt, floatOf, patternOf, signedOf};
 
 // A digit of a pattern; any other byte counts as 0.
 fn digit(b: u8) -> u64
-    ensures { λ r. ⌜ r < 16 ⌝ }
+    ensures { λ r. ⌜ (r ≡ digitOf b) × (r < 16) ⌝ }
 {
     if b >= b'a' {
         if b <= b'f' {
@@ -22,7 +24,9 @@ fn digit(b: u8) -> u64
 }
 
 // The pattern whose sixteen digits begin at `from`; 0 where the line ends before.
-pub fn pattern_at(line: &[u8], from: usize) -> u64 {
+pub fn pattern_at(line: &[u8], from: usize) -> u64
+    ensures { λ r. ⌜ r ≡ patternAt (now (line .entry)) from ⌝ }
+{
     if line.len() < 16 {
         return 0;
     }
@@ -39,19 +43,25 @@ pub fn pattern_at(line: &[u8], from: usize) -> u64 {
 }
 
 // Rattle makes no float of a NaN's pattern, so each stands for the NaN that a division gives.
-pub fn float_of(pattern: u64) -> f64 {
+pub fn float_of(pattern: u64) -> f64
+    ensures { λ r. ⌜ r ≡ floatOf pattern ⌝ }
+{
     if pattern % 9223372036854775808 > 9218868437227405312 {
         return 0.0 / 0.0;
     }
     f64::from_bits(pattern)
 }
 
-pub fn float_at(line: &[u8], from: usize) -> f64 {
+pub fn float_at(line: &[u8], from: usize) -> f64
+    ensures { λ r. ⌜ r ≡ floatOf (patternAt (now (line .entry)) from) ⌝ }
+{
     float_of(pattern_at(line, from))
 }
 
 // A NaN's pattern is not fixed, so the list has one for all.
-pub fn pattern_of(x: f64) -> u64 {
+pub fn pattern_of(x: f64) -> u64
+    ensures { λ r. ⌜ r ≡ patternOf x ⌝ }
+{
     if x != x {
         return 9221120237041090560;
     }
@@ -59,7 +69,9 @@ pub fn pattern_of(x: f64) -> u64 {
 }
 
 // Two's complement.
-pub fn signed(n: i64) -> u64 {
+pub fn signed(n: i64) -> u64
+    ensures { λ r. ⌜ r ≡ signedOf n ⌝ }
+{
     if n < 0 {
         return 18446744073709551615 - ((-1 - n) as u64);
     }

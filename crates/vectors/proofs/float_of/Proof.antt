@@ -1,17 +1,18 @@
--- `vectors::float_of` is safe: past the test the pattern is no NaN's. Assumes nothing.
-use mathlib.Core.Path.{sym, subst, _∙_}
+-- `vectors::float_of`: past the test the pattern is no NaN's. Assumes nothing.
+use mathlib.Core.Path.{refl, sym, subst, _∙_}
 use mathlib.Core.Bool.{Bool, not}
 use Prim.Native.Nat.{_%_, _*_, _^_}
 use lib.Dec.{T}
-use lib.Ieee.{binary64}
+use lib.Ieee.{binary64, div, ofBits}
 use lib.Ieee.Bits.{nanBits-above}
-use borrow.Author.Needs.{needs}
-use borrow.Author.Tests.{le-ltb}
+use borrow.Author.Tests.{lt-ltb, le-ltb}
+use Rattle.vectors.specs.Vectors.{floatOf}
 use Rattle.vectors.proofs.float_of.Statement.{statement}
 use Rattle.vectors.proofs.float_of.Tie as tie
 
 returns : tie.Need-returns
-returns c = search needs
+unfolding floatOf div ofBits
+returns c = rw (lt-ltb (2047 * 2 ^ 52) (c .before .args .pattern % 2 ^ 63) (c .if1 .taken)) refl
 
 float-from-bits-result : tie.Need-float-from-bits-result
 float-from-bits-result c =
@@ -19,7 +20,8 @@ float-from-bits-result c =
     subst (λ (t : Bool). T (not t)) (sym (nanBits-above binary64 b ∙ le-ltb (2047 * 2 ^ 52) (b % 2 ^ 63) (c .if1 .left))) tt
 
 returns-2 : tie.Need-returns-2
-returns-2 c = search needs
+unfolding floatOf
+returns-2 c = rw (le-ltb (2047 * 2 ^ 52) (c .before .args .pattern % 2 ^ 63) (c .if1 .left)) refl
 
 pub float-of-spec : {M : Type 1} → statement M
 float-of-spec = tie.close (tie.spec returns float-from-bits-result returns-2)

@@ -1,0 +1,2 @@
+-- The laws of crate `vectors`.
+pub mod PatternLaws

@@ -1,0 +1,2 @@
+-- What the contracts of crate `vectors` cite.
+pub mod Vectors
