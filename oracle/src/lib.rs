@@ -1,8 +1,11 @@
 //! What the proved code is compared with, and what the comparisons share.
 
-pub mod occupancy;
+pub mod ordered;
+pub mod published;
 pub mod stand_ins;
 pub mod vectors;
+
+pub use ordered::occupancy;
 
 use occupancy::Cell;
 

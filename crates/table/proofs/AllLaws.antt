@@ -3,7 +3,7 @@ use Prim.Native.Nat.{ℕ, zero, suc, _≤_, _<_}
 use native.Mathlib.Nat.{le-of-suc-le-suc, not-suc-le-zero}
 use native.Mathlib.Omega.{arith}
 use mathlib.Core.List.{List, [], _∷_}
-use lib.ListN.{length, drop, getD}
+use lib.ListN.{length, take, drop, getD}
 use Rattle.model.specs.Maps.{AscL}
 use Rattle.table.specs.Tables.{All}
 
@@ -29,6 +29,11 @@ pub ascL-drop : (lo n : ℕ) (l : List ℕ) → AscL lo l → AscL lo (drop n l)
 ascL-drop lo zero l a = a
 ascL-drop lo (suc n) [] a = tt
 ascL-drop lo (suc n) (x ∷ l) a = ascL-down lo (suc x) (drop n l) (omega arith) (ascL-drop (suc x) n l (a .1))
+
+pub ascL-take : (lo n : ℕ) (l : List ℕ) → AscL lo l → AscL lo (take n l)
+ascL-take lo zero l a = tt
+ascL-take lo (suc n) [] a = tt
+ascL-take lo (suc n) (x ∷ l) a = (a .0, ascL-take (suc x) n l (a .1))
 
 pub ascL-all : (lo : ℕ) (l : List ℕ) → AscL lo l → All (λ x. lo ≤ x) l
 ascL-all lo [] a = tt

@@ -1,5 +1,6 @@
 // A column of a table, and its rows, as stretches of the caller's table.
 use crate::place::place;
+use crate::place::place_near;
 ghost use mathlib.Core.Path.{_≡_};
 ghost use Prim.Native.Nat.{ℕ, _*_, _≤_};
 ghost use lib.ListN.{length};
@@ -11,12 +12,12 @@ ghost use Rattle.table.specs.Tables.{rank};
 // Keys from one column to the next; there are as many columns.
 const WIDTH: u64 = 4294967296;
 
-// Where column x begins, or would begin.
+// Where column x begins, or would begin: who goes from column to column finds it near the front.
 fn begin(t: &[u64], x: u64) -> usize
     ensures { λ r. ⌜ (r ≤ length (now (t .entry))) × (AscL 0 (now (t .entry)) → r ≡ rank (x * W) (now (t .entry))) ⌝ }
 {
     if x < WIDTH {
-        return place(t, x * WIDTH);
+        return place_near(t, x * WIDTH);
     }
     t.len()
 }

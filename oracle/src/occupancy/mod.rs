@@ -13,23 +13,21 @@
  * See the License for the specific language governing permissions and
  * limitations under the License.
  *
- * Changed for this repository: ordered maps for hash maps, stand-ins for nalgebra, bitfield and arrayvec,
+ * Changed for this repository: where the hash maps come from, stand-ins for nalgebra, bitfield and arrayvec,
  * no visibility graph, accessibility, unstable or timed items.
  *
 */
 
 use crate::stand_ins::triangular_for;
 pub use crate::stand_ins::{Point, Vector};
-use std::{
-    collections::{
-        btree_map::{Entry, Iter as BTreeMapIter},
-        BTreeMap, BTreeSet,
-    },
-    ops::Sub,
+use super::maps::{
+    hash_map::{Entry, Iter as HashMapIter},
+    HashMap, HashSet,
 };
+use std::ops::Sub;
 use util::LineSegment;
 
-#[derive(Debug, Clone, Copy, PartialEq, Eq, PartialOrd, Ord)]
+#[derive(Debug, Clone, Copy, PartialEq, Eq, Hash, PartialOrd, Ord)]
 pub struct Cell {
     pub x: i64,
     pub y: i64,
@@ -264,7 +262,7 @@ pub trait Grid: std::fmt::Debug {
 
     /// Change the occupancy value of a set of cells. Get back any changes that
     /// have occurred to the corners of the occupancy.
-    fn change_cells(&mut self, changes: &BTreeMap<Cell, bool>)
+    fn change_cells(&mut self, changes: &HashMap<Cell, bool>)
         -> (ConfirmedChanges, ChangedCorners);
 
     /// Get the size (width and height) of a cell.
@@ -307,8 +305,8 @@ pub struct Visibility<G: Grid> {
     grid: G,
     agent_radius: f64,
     cell_shift: i64,
-    points: BTreeMap<Cell, (BlockedBy, CornerStatus)>,
-    edges: BTreeMap<Cell, BTreeMap<Cell, BlockedBy>>,
+    points: HashMap<Cell, (BlockedBy, CornerStatus)>,
+    edges: HashMap<Cell, HashMap<Cell, BlockedBy>>,
 }
 
 impl<G: Grid> Visibility<G> {
@@ -320,8 +318,8 @@ impl<G: Grid> Visibility<G> {
             grid,
             agent_radius,
             cell_shift: Self::calculate_cell_shift(agent_radius, cell_size),
-            points: BTreeMap::new(),
-            edges: BTreeMap::new(),
+            points: HashMap::new(),
+            edges: HashMap::new(),
         };
 
         Self::update_corners(
@@ -340,7 +338,7 @@ impl<G: Grid> Visibility<G> {
     /// Change the values for a set of cells.
     // TODO(@mxgrey): Have this return more detailed information about what changed
     // instead of only returning a boolean.
-    pub fn change_cells(&mut self, changes: &BTreeMap<Cell, bool>) -> bool {
+    pub fn change_cells(&mut self, changes: &HashMap<Cell, bool>) -> bool {
         let (confirmed_changes, corner_changes) = self.grid.change_cells(changes);
         if confirmed_changes.is_empty() {
             // If none of the cells actually changed, then no corners should
@@ -369,7 +367,7 @@ impl<G: Grid> Visibility<G> {
         }
     }
 
-    pub fn debug_points(&self) -> &BTreeMap<Cell, (BlockedBy, CornerStatus)> {
+    pub fn debug_points(&self) -> &HashMap<Cell, (BlockedBy, CornerStatus)> {
         return &self.points;
     }
 
@@ -382,7 +380,7 @@ impl<G: Grid> Visibility<G> {
         }
     }
 
-    pub fn debug_edges(&self) -> &BTreeMap<Cell, BTreeMap<Cell, BlockedBy>> {
+    pub fn debug_edges(&self) -> &HashMap<Cell, HashMap<Cell, BlockedBy>> {
         return &self.edges;
     }
 
@@ -460,8 +458,8 @@ impl<G: Grid> Visibility<G> {
         corners: impl IntoIterator<Item = (&'b Cell, &'b CornerStatus)>,
         agent_radius: f64,
         cell_shift: i64,
-        points: &mut BTreeMap<Cell, (BlockedBy, CornerStatus)>,
-        edges: &mut BTreeMap<Cell, BTreeMap<Cell, BlockedBy>>,
+        points: &mut HashMap<Cell, (BlockedBy, CornerStatus)>,
+        edges: &mut HashMap<Cell, HashMap<Cell, BlockedBy>>,
     ) -> bool {
         let mut changed = !confirmed_changes.is_empty();
         let mut new_points = Vec::new();
@@ -742,12 +740,12 @@ impl<'a, G: Grid> Iterator for VisibleCells<'a, G> {
 }
 
 enum VisibilityEdges<'a> {
-    Precalculated(BTreeMapIter<'a, Cell, Option<Cell>>),
+    Precalculated(HashMapIter<'a, Cell, Option<Cell>>),
     Unknown(VisiblePointsIter<'a>),
 }
 
 pub struct VisiblePointsIter<'a> {
-    iter: BTreeMapIter<'a, Cell, (BlockedBy, CornerStatus)>,
+    iter: HashMapIter<'a, Cell, (BlockedBy, CornerStatus)>,
 }
 
 impl<'a> Iterator for VisiblePointsIter<'a> {
@@ -808,7 +806,7 @@ impl<'a, G: Grid> Iterator for NeighborsIter<'a, G> {
 }
 
 struct UniqueCellPairSet {
-    set: BTreeSet<(Cell, Cell)>,
+    set: HashSet<(Cell, Cell)>,
 }
 
 impl UniqueCellPairSet {
@@ -834,8 +832,8 @@ impl UniqueCellPairSet {
 
 pub struct VisibilityEdgeIter<'a, G: Grid> {
     visibility: &'a Visibility<G>,
-    point_iter: BTreeMapIter<'a, Cell, BTreeMap<Cell, BlockedBy>>,
-    edge_iter: Option<(&'a Cell, BTreeMapIter<'a, Cell, BlockedBy>)>,
+    point_iter: HashMapIter<'a, Cell, HashMap<Cell, BlockedBy>>,
+    edge_iter: Option<(&'a Cell, HashMapIter<'a, Cell, BlockedBy>)>,
     pair_tracker: UniqueCellPairSet,
 }
 

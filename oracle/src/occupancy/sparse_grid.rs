@@ -13,19 +13,20 @@
  * See the License for the specific language governing permissions and
  * limitations under the License.
  *
- * Changed for this repository: ordered maps for hash maps.
+ * Changed for this repository: where the hash maps come from.
  *
 */
 
 use super::util::{LineSegment, SearchF64};
 use super::{Cell, ChangedCorners, ConfirmedChanges, Corner, CornerStatus, Grid, Point, Vector};
-use std::collections::{btree_map, btree_set, BTreeMap, BTreeSet};
+use super::super::maps::{hash_map, hash_set, HashMap, HashSet};
+use std::collections::{btree_map, BTreeMap, BTreeSet};
 
 #[derive(Debug, Clone)]
 pub struct SparseGrid {
     cell_size: f64,
-    occupied: BTreeSet<Cell>,
-    corners: BTreeMap<Cell, CornerStatus>,
+    occupied: HashSet<Cell>,
+    corners: HashMap<Cell, CornerStatus>,
     occupancy_map: BTreeMap<i64, BTreeSet<i64>>,
 }
 
@@ -34,8 +35,8 @@ impl SparseGrid {
     pub fn new(cell_size: f64) -> SparseGrid {
         Self {
             cell_size,
-            occupied: BTreeSet::default(),
-            corners: BTreeMap::default(),
+            occupied: HashSet::default(),
+            corners: HashMap::default(),
             occupancy_map: BTreeMap::default(),
         }
     }
@@ -73,11 +74,11 @@ impl SparseGrid {
 
         if status.is_corner() {
             match self.corners.entry(*cell) {
-                btree_map::Entry::Vacant(entry) => {
+                hash_map::Entry::Vacant(entry) => {
                     entry.insert(status);
                     delta.push((*cell, status));
                 }
-                btree_map::Entry::Occupied(mut entry) => {
+                hash_map::Entry::Occupied(mut entry) => {
                     let existing_corner = entry.get_mut();
                     let changed = status != *existing_corner;
                     *existing_corner = status;
@@ -139,14 +140,14 @@ impl SparseGrid {
 }
 
 impl Grid for SparseGrid {
-    type OccupiedIterator<'a> = btree_set::Iter<'a, Cell>;
-    type CornerIterator<'a> = btree_map::Iter<'a, Cell, CornerStatus>;
+    type OccupiedIterator<'a> = hash_set::Iter<'a, Cell>;
+    type CornerIterator<'a> = hash_map::Iter<'a, Cell, CornerStatus>;
 
     /// Change whether a cell is occupied or not. Returns true if a change
     /// happened, otherwise returns false if the cell already had this value.
     fn change_cells(
         &mut self,
-        changes: &BTreeMap<Cell, bool>,
+        changes: &HashMap<Cell, bool>,
     ) -> (ConfirmedChanges, ChangedCorners) {
         let mut confirmed_changes = Vec::new();
         confirmed_changes.reserve(changes.len());
@@ -158,7 +159,7 @@ impl Grid for SparseGrid {
         }
 
         let mut delta = ChangedCorners::default();
-        let mut checked = BTreeSet::new();
+        let mut checked = HashSet::new();
         for (check, _) in &confirmed_changes {
             for i in -1..=1 {
                 for j in -1..=1 {

@@ -1,0 +1,2 @@
+-- What the contracts of crate `corner` cite.
+pub mod Corners

@@ -1,0 +1,2 @@
+// Corners of occupied cells.
+pub mod status;

@@ -1,4 +1,0 @@
--- The laws of crate `grid`.
-pub mod CircleLaws
-pub mod CornersLaws
-pub mod SweepLaws

@@ -1,0 +1,4 @@
+-- The laws of crate `shape`.
+pub mod BoundsLaws
+pub mod CircleLaws
+pub mod SweepLaws
