@@ -31,3 +31,7 @@ patternOf x = cond (isNan x) 9221120237041090560 (toBits binary64 x)
 unfoldable pub signedOf : ℤ → ℕ
 signedOf (pos n) = n
 signedOf (negsuc n) = 2 ^ 64 - suc n
+
+-- the number that has it
+unfoldable pub integerOf : ℕ → ℤ
+integerOf n = cond (ltb n (2 ^ 63)) (pos n) (negsuc (2 ^ 64 - 1 - n))

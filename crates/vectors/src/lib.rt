@@ -4,7 +4,7 @@ use libc::STDIN_FILENO;
 use libc::STDOUT_FILENO;
 ghost use mathlib.Core.Path.{_≡_};
 ghost use Prim.Native.Nat.{_<_};
-ghost use Rattle.vectors.specs.Vectors.{digitOf, patternAt, floatOf, patternOf, signedOf};
+ghost use Rattle.vectors.specs.Vectors.{digitOf, patternAt, floatOf, patternOf, signedOf, integerOf};
 
 // A digit of a pattern; any other byte counts as 0.
 fn digit(b: u8) -> u64
@@ -76,6 +76,15 @@ pub fn signed(n: i64) -> u64
         return 18446744073709551615 - ((-1 - n) as u64);
     }
     n as u64
+}
+
+pub fn integer_of(pattern: u64) -> i64
+    ensures { λ r. ⌜ r ≡ integerOf pattern ⌝ }
+{
+    if pattern < 9223372036854775808 {
+        return pattern as i64;
+    }
+    -1 - ((18446744073709551615 - pattern) as i64)
 }
 
 // Fills the line, and says whether the input had that much.

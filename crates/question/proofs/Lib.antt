@@ -1,0 +1,5 @@
+-- The laws of crate `question`.
+pub mod FindLaws
+pub mod NumberLaws
+pub mod TakenLaws
+pub mod WalkLaws

@@ -1,0 +1,169 @@
+-- A walk over an ascending table column by column, and over a column row by row, finds the first cell that is taken. Assumes nothing.
+use Prim.Native.Nat.{ℕ, suc, _+_, _-_, _*_, _^_, _≤_, _<_}
+use native.Mathlib.Numerals.{add-one}
+use native.Mathlib.Omega.{arith}
+use mathlib.Core.Path.{_≡_, refl, sym, ap, _∙_, subst}
+use mathlib.Core.Bool.{Bool, true, false, _&&_, and-assoc, and-false}
+use mathlib.Core.List.{List, [], _∷_, _++_}
+use mathlib.Core.Logic.{⊎-elim}
+use mathlib.Core.Option.{Option, none, some}
+use lib.Dec.{eqb, leb, ltb}
+use lib.ListN.{length, take, drop, getD, take-append-drop, drop-of-length-le}
+use lib.Seq.{drop-cons, drop-drop, length-take-le}
+use borrow.Author.Tests.{lt-ltb, le-ltb, lt-leb, le-leb, eq-eqb, ne-eqb}
+use Rattle.ieee.proofs.Tools.{lt-or-ge}
+use Rattle.lists.proofs.Parts.{tail-is}
+use Rattle.model.specs.Cell.{W, col, row}
+use Rattle.model.specs.Maps.{AscL, find, sift}
+use Rattle.model.specs.Shape.{Found}
+use Rattle.shape.specs.declared.bounds.Bounds.{Bounds}
+use Rattle.table.specs.Columns.{InColumn, columnOf, rowsFrom}
+use Rattle.table.specs.Tables.{All, rank}
+use Rattle.table.proofs.AllLaws.{all-at, all-from, all-map, ascL-all, ascL-drop}
+use Rattle.table.proofs.ColumnLaws.{column-ascends, column-one, rows-ascend}
+use Rattle.table.proofs.RankLaws.{rank-le, rank-splits}
+use Rattle.table.proofs.SiftLaws.{sift-below, sift-same}
+use Rattle.question.specs.Walk.{columnTaken, passes, rowTaken, rowsAt, taken}
+use Rattle.question.specs.declared.walk.Shape.{Shape}
+use Rattle.question.proofs.FindLaws.{all-kept, all-rest, find-agree, find-back, find-front, find-here, find-later, find-nowhere, find-sift}
+
+-- what a test answers
+abbrev pub answer : Option ℕ → Found
+answer o = record { cell = o }
+
+-- from place i on an ascending list, no entry is below the one at i
+from-here : (l : List ℕ) (i : ℕ) → i < length l → AscL 0 l → All (λ k. getD l i 0 ≤ k) (drop i l)
+from-here l i h a = subst (All (λ k. getD l i 0 ≤ k)) (sym e) (omega arith, all-map (drop (suc i) l) (λ k b. omega arith) (ascL-all (suc (getD l i 0)) (drop (suc i) l) (b .1)))
+  where
+    e : drop i l ≡ getD l i 0 ∷ drop (suc i) l
+    e = drop-cons l i 0 h
+
+    b : AscL 0 (getD l i 0 ∷ drop (suc i) l)
+    b = subst (AscL 0) e (ascL-drop 0 i l a)
+
+-- ---- along a column, from place i on
+module _ (high : ℕ) (s : Shape) (l : List ℕ) (i : ℕ) (h : i < length l) where
+  abbrev wanted : ℕ → Bool
+  wanted = rowTaken high s
+
+  step : find wanted (drop i l) ≡ find wanted (getD l i 0 ∷ drop (i + 1) l)
+  step = rw (add-one i) (ap (find wanted) (drop-cons l i 0 h))
+
+  -- nothing behind a row that is too high has a lower row
+  pub row-past : (x : ℕ) → AscL 0 l → InColumn x l → high ≤ row (getD l i 0) → find wanted l ≡ find wanted (drop i l) → none ≡ find wanted l
+  row-past x a o b e = sym (e ∙ find-nowhere wanted (drop i l) (both (drop i l) (from-here l i h a) (all-rest (λ k. col k ≡ x) i l o)))
+    where
+      first : col (getD l i 0) ≡ x
+      first = all-at (λ k. col k ≡ x) l i o h
+
+      both : (m : List ℕ) → All (λ k. getD l i 0 ≤ k) m → InColumn x m → All (λ k. wanted k ≡ false) m
+      both [] u v = tt
+      both (k ∷ m) u v =
+          let y = getD l i 0 in
+          let f : col y ≡ x = first in
+          let z : high ≤ row k = omega (arith, u .0, v .0) in
+          (rw (le-ltb (row k) high z) refl, both m (u .1) (v .1))
+
+  pub row-passes : row (getD l i 0) < high → passes s (getD l i 0) ≡ true → find wanted l ≡ find wanted (drop i l) → some (getD l i 0) ≡ find wanted l
+  row-passes b p e = sym (e ∙ step ∙ find-here wanted (getD l i 0) (drop (i + 1) l) (rw (lt-ltb (row (getD l i 0)) high b) p))
+
+  pub row-fails : passes s (getD l i 0) ≡ false → find wanted l ≡ find wanted (drop i l) → find wanted l ≡ find wanted (drop (i + 1) l)
+  row-fails p e = e ∙ step ∙ find-later wanted (getD l i 0) (drop (i + 1) l) (rw p (and-false (ltb (row (getD l i 0)) high)))
+
+-- at the end
+pub find-past : (p : ℕ → Bool) (l : List ℕ) (i : ℕ) → length l ≤ i → find p (drop i l) ≡ none
+unfolding find
+find-past p l i h = ap (find p) (drop-of-length-le l h)
+
+-- the rows that are asked for
+rows-found : (s : Shape) (x : ℕ) (l : List ℕ) → find (rowTaken (rowsAt s x .high) s) (rowsFrom (rowsAt s x .low) l) ≡ find (λ k. columnTaken s x k) l
+rows-found s x l =
+    let b : Bounds = rowsAt s x in
+    find-sift (λ k. leb (b .low) (row k)) (rowTaken (b .high) s) l
+    ∙ find-agree (λ k. leb (b .low) (row k) && rowTaken (b .high) s k) (λ k. columnTaken s x k) l
+    (all-from (λ k. (leb (b .low) (row k) && rowTaken (b .high) s k) ≡ columnTaken s x k) l (λ i. let k = getD l i 0 in sym (and-assoc (leb (b .low) (row k)) (ltb (row k) (b .high)) (passes s k))))
+
+pub rows-answered : (s : Shape) (x : ℕ) (l m : List ℕ) (b : Bounds) (r : Found) → b ≡ rowsAt s x → AscL 0 l → InColumn x l → m ≡ rowsFrom (b .low) l
+    → ((z : ℕ) → AscL 0 m → InColumn z m → r ≡ answer (find (rowTaken (b .high) s) m)) → r ≡ answer (find (λ k. columnTaken s x k) l)
+rows-answered s x l m b r q a o e f =
+    f x (subst (AscL 0) (sym e) (rows-ascend (b .low) 0 l a)) (subst (InColumn x) (sym e) (all-kept (λ k. col k ≡ x) (λ k. leb (b .low) (row k)) l o))
+    ∙ ap answer (rw (e, q) (rows-found s x l))
+
+-- ---- along a table; once the columns below the first are passed, only the last counts
+abbrev pub below : ℕ → Shape → ℕ → Bool
+below high s k = ltb (col k) high && columnTaken s (col k) k
+
+module _ (columns : Bounds) (s : Shape) (l : List ℕ) where
+  -- no cell has so high a column
+  pub low-beyond : W ≤ columns .low → ((i : ℕ) → getD l i 0 < 2 ^ 64) → none ≡ find (taken columns s) l
+  low-beyond h f =
+      sym (find-nowhere (taken columns s) l (all-from (λ k. taken columns s k ≡ false) l (λ i. let b = f i in rw (lt-leb (columns .low) (col (getD l i 0)) (omega arith)) refl)))
+
+  pub low-passed : (i : ℕ) → AscL 0 l → i ≡ rank (columns .low * W) l → find (taken columns s) l ≡ find (below (columns .high) s) (drop i l)
+  low-passed i a e =
+      let n = rank (columns .low * W) l in
+      let q = rank-splits 0 (columns .low * W) l a in
+      rw e
+      (ap (find (taken columns s)) (sym (take-append-drop n l))
+      ∙ find-back (taken columns s) (take n l) (drop n l) (find-nowhere (taken columns s) (take n l) (all-map (take n l) (λ k b. rw (lt-leb (columns .low) (col k) (omega arith)) refl) (q .0)))
+      ∙ find-agree (taken columns s) (below (columns .high) s) (drop n l) (all-map (drop n l) (λ k b. rw (le-leb (columns .low) (col k) (omega arith)) refl) (q .1)))
+
+-- column x is the front stretch of an ascending list that begins in it
+front-test : (x k : ℕ) → x * W ≤ k → eqb (col k) x ≡ ltb k ((x + 1) * W)
+front-test x k h =
+    ⊎-elim
+    (λ b. rw (lt-ltb k ((x + 1) * W) b) (eq-eqb (col k) x (omega arith)))
+    (λ b. rw (le-ltb k ((x + 1) * W) b) (ne-eqb (col k) x (λ e. omega arith)))
+    (lt-or-ge k ((x + 1) * W))
+
+front-is : (x : ℕ) (l : List ℕ) → AscL 0 l → All (λ k. x * W ≤ k) l → columnOf x l ≡ take (rank ((x + 1) * W) l) l
+front-is x l a b =
+    sift-same (λ k. eqb (col k) x) (λ k. ltb k ((x + 1) * W)) l (all-map l (front-test x) b) ∙ sift-below ((x + 1) * W) 0 l a
+
+front-splits : (x : ℕ) (l : List ℕ) → AscL 0 l → All (λ k. x * W ≤ k) l → l ≡ columnOf x l ++ drop (length (columnOf x l)) l
+front-splits x l a b =
+    let r = rank ((x + 1) * W) l in
+    rw (front-is x l a b, length-take-le r l (rank-le ((x + 1) * W) l)) (sym (take-append-drop r l))
+
+begins-some : (y : ℕ) (l : List ℕ) → length (columnOf (col y) (y ∷ l)) ≡ 0 → ⊥
+unfolding sift
+begins-some y l e = let f = rw (eq-eqb (col y) (col y) refl) at e in omega arith
+
+-- from place i on, where cell y stands
+module _ (high : ℕ) (s : Shape) (l : List ℕ) (i : ℕ) (h : i < length l) (a : AscL 0 l) where
+  abbrev y : ℕ
+  y = getD l i 0
+
+  pub column-past : high ≤ col y → find (below high s) (drop i l) ≡ none
+  column-past b = find-nowhere (below high s) (drop i l) (all-map (drop i l) (λ k c. rw (le-ltb (col k) high (omega arith)) refl) (from-here l i h a))
+
+  -- m is the column as it was cut out of the rest of the table, r what was found in it
+  module _ (m : List ℕ) (e : AscL 0 (take (length l - i) (drop i l)) → m ≡ columnOf (col y) (take (length l - i) (drop i l))) where
+    cut : m ≡ columnOf (col y) (drop i l)
+    cut = rw (tail-is i l) at (e (rw (tail-is i l) (ascL-drop 0 i l a)))
+
+    splits : drop i l ≡ m ++ drop (i + length m) l
+    splits =
+        rw (cut, ← drop-drop (length (columnOf (col y) (drop i l))) i l)
+        (front-splits (col y) (drop i l) (ascL-drop 0 i l a) (all-map (drop i l) (λ k c. omega arith) (from-here l i h a)))
+
+    one : InColumn (col y) m
+    one = subst (InColumn (col y)) (sym cut) (column-one (col y) (drop i l))
+
+    pub column-some : length m ≡ 0 → ⊥
+    column-some z = begins-some y (drop (suc i) l) (rw (cut, drop-cons l i 0 h) at z)
+
+    module _ (b : col y < high) (r : Found) (f : AscL 0 m → InColumn (col y) m → r ≡ answer (find (λ k. columnTaken s (col y) k) m)) where
+      told : r .cell ≡ find (below high s) m
+      told =
+          ap (λ (v : Found). v .cell) (f (subst (AscL 0) (sym cut) (column-ascends (col y) 0 (drop i l) (ascL-drop 0 i l a))) one)
+          ∙ find-agree (λ k. columnTaken s (col y) k) (below high s) m (all-map m inside one)
+        where
+          inside : (k : ℕ) → col k ≡ col y → columnTaken s (col y) k ≡ below high s k
+          inside k c = subst (λ (x : ℕ). columnTaken s (col y) k ≡ (ltb x high && columnTaken s x k)) (sym c) (rw (lt-ltb (col y) high b) refl)
+
+      pub column-here : (k : ℕ) → r .cell ≡ some k → find (below high s) (drop i l) ≡ r .cell
+      column-here k q = ap (find (below high s)) splits ∙ find-front (below high s) m (drop (i + length m) l) k (sym told ∙ q) ∙ sym q
+
+      pub column-next : r .cell ≡ none → find (below high s) (drop i l) ≡ find (below high s) (drop (i + length m) l)
+      column-next q = ap (find (below high s)) splits ∙ find-back (below high s) m (drop (i + length m) l) (sym told ∙ q)

@@ -1,0 +1,31 @@
+-- `search::circle`: the walk over the circle's columns and rows. Assumes nothing.
+use borrow.Author.Needs.{needs}
+use Rattle.plane.specs.Values.{pt}
+use Rattle.question.specs.Walk.{found}
+use Rattle.question.proofs.TakenLaws.{circle-found}
+use Rattle.question.proofs.search.circle.Statement.{statement}
+use Rattle.question.proofs.search.circle.Tie as tie
+
+around-requires : tie.Need-around-requires
+around-requires c κs = search needs
+
+around-requires-2 : tie.Need-around-requires-2
+around-requires-2 c κs = search needs
+
+new-requires : tie.Need-new-requires
+new-requires c κs = search needs
+
+first-requires : tie.Need-first-requires
+first-requires c κs = search needs
+
+returns : tie.Need-returns
+returns c =
+    let g = c .before in
+    let y = g .before in
+    let x = y .before in
+    let s = x .before .before .args in
+    λ a i. circle-found (s .size) (s .cells .now) i (found (c .first .result)) (x .around .result) (pt (s .p)) (y .around2 .result) (s .radius) (g .new .result) (x .around .ensures) (y .around2 .ensures) (g .new .ensures) (c .first .ensures a)
+
+pub circle-spec : {M : Type 1} → statement M
+circle-spec =
+    tie.close (tie.spec around-requires around-requires-2 new-requires first-requires returns)

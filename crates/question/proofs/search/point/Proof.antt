@@ -1,0 +1,59 @@
+-- `search::point`: the point's cell is looked up. Assumes nothing.
+use native.Mathlib.Omega.{arith}
+use mathlib.Core.Path.{sym, _∙_}
+use borrow.Author.Needs.{needs}
+use Rattle.plane.specs.Values.{pt}
+use Rattle.question.proofs.TakenLaws.{column-small, point-none, point-there}
+use Rattle.question.proofs.search.point.Statement.{statement}
+use Rattle.question.proofs.search.point.Tie as tie
+
+column-of-requires : tie.Need-column-of-requires
+column-of-requires c κs = search needs
+
+mul-k : tie.Need-mul-k
+mul-k c =
+    let s = c .before .before .before .args in
+    let h = column-small (s .size) (s .p .x) (c .column-of .result) (c .column-of .ensures) in
+    omega arith
+
+column-of-requires-2 : tie.Need-column-of-requires-2
+column-of-requires-2 c κs = search needs
+
+add-k : tie.Need-add-k
+add-k c =
+    let u = c .before .before in
+    let s = u .before .before .before .args in
+    let h = column-small (s .size) (s .p .x) (u .column-of .result) (u .column-of .ensures) in
+    let k = column-small (s .size) (s .p .y) (c .column-of2 .result) (c .column-of2 .ensures) in
+    omega arith
+
+contains-requires : tie.Need-contains-requires
+contains-requires c κs = search needs
+
+returns : tie.Need-returns
+returns c =
+    let h = c .before in
+    let v = h .before in
+    let u = v .before .before in
+    let s = u .before .before .before .args in
+    λ a. point-there (s .size) (s .cells .now) (pt (s .p)) (u .column-of .result) (v .column-of2 .result) (u .column-of .ensures) (v .column-of2 .ensures) (sym (h .contains .ensures a) ∙ c .if1 .taken)
+
+returns-2 : tie.Need-returns-2
+returns-2 c =
+    let h = c .before in
+    let v = h .before in
+    let u = v .before .before in
+    let s = u .before .before .before .args in
+    λ a. point-none (s .size) (s .cells .now) (pt (s .p)) (u .column-of .result) (v .column-of2 .result) (u .column-of .ensures) (v .column-of2 .ensures) (sym (h .contains .ensures a) ∙ c .if1 .left)
+
+pub point-spec : {M : Type 1} → statement M
+point-spec =
+    tie.close
+    (tie.spec
+    column-of-requires
+    mul-k
+    column-of-requires-2
+    add-k
+    contains-requires
+    returns
+    returns-2)

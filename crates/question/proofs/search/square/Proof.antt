@@ -1,0 +1,28 @@
+-- `search::square`: the walk over the square's columns and rows. Assumes nothing.
+use lib.Ieee.{ofBits}
+use borrow.Author.Needs.{needs}
+use Rattle.plane.specs.Values.{pt}
+use Rattle.question.specs.Walk.{found}
+use Rattle.question.proofs.TakenLaws.{square-found}
+use Rattle.question.proofs.search.square.Statement.{statement}
+use Rattle.question.proofs.search.square.Tie as tie
+
+around-requires : tie.Need-around-requires
+around-requires c κs = search needs
+
+around-requires-2 : tie.Need-around-requires-2
+around-requires-2 c κs = search needs
+
+first-requires : tie.Need-first-requires
+first-requires c κs = search needs
+
+returns : tie.Need-returns
+unfolding ofBits
+returns c =
+    let y = c .before in
+    let x = y .before in
+    let s = x .before .before .args in
+    λ a i. square-found (s .size) (s .cells .now) i (found (c .first .result)) (x .around .result) (pt (s .p)) (y .around2 .result) (s .width) (x .around .ensures) (y .around2 .ensures) (c .first .ensures a)
+
+pub square-spec : {M : Type 1} → statement M
+square-spec = tie.close (tie.spec around-requires around-requires-2 first-requires returns)

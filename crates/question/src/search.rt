@@ -1,0 +1,104 @@
+// The four tests on a table of cells. Nothing is asked of the table, and no number is refused here.
+use crate::walk::Shape;
+use crate::walk::first;
+use plane::point::Point;
+use shape::bounds::Bounds;
+use shape::circle::Circle;
+use shape::sweep::Strip;
+use table::place::contains;
+ghost use mathlib.Core.Path.{_≡_};
+ghost use Rattle.model.specs.Good.{Inside};
+ghost use Rattle.model.specs.Limits.{maxCoordinate};
+ghost use Rattle.model.specs.Maps.{AscL};
+ghost use Rattle.model.specs.Shape.{ask, pointTest, squareTest, circleTest, sweepTest};
+ghost use Rattle.plane.specs.Values.{pt};
+ghost use Rattle.table.specs.Tables.{All};
+ghost use Rattle.question.specs.Question.{asked};
+ghost use Rattle.question.specs.Walk.{boundsAround, found};
+
+// One question carries its shape and that shape's own lengths: a point; a centre and a width; a centre and a
+// radius; two points and a width.
+pub enum Question {
+    Point(Point),
+    Square(Point, f64),
+    Circle(Point, f64),
+    Sweep(Point, Point, f64),
+}
+
+// A cell's key, or none.
+pub enum Spot {
+    Nothing,
+    At(u64),
+}
+
+// What a test finds.
+pub struct Found {
+    pub cell: Spot,
+}
+
+// `is_point_occupied`
+fn point(size: f64, cells: &[u64], p: Point) -> Found
+    ensures { λ r. ⌜ (AscL 0 (now (cells .entry)) → found r ≡ pointTest size (now (cells .entry)) (pt p)) ⌝ }
+{
+    let k = ieee::whole::column_of(p.x / size) * 4294967296 + ieee::whole::column_of(p.y / size);
+    if contains(cells, k) {
+        return Found { cell: Spot::At(k) };
+    }
+    Found {
+        cell: Spot::Nothing,
+    }
+}
+
+// The columns or rows of a square of half the width d.
+fn around(size: f64, z: f64, d: f64) -> Bounds
+    ensures { λ r. ⌜ r ≡ boundsAround size z d ⌝ }
+{
+    Bounds::between((z - d) / size, (z + d) / size)
+}
+
+// `is_square_occupied`
+fn square(size: f64, cells: &[u64], p: Point, width: f64) -> Found
+    ensures { λ r. ⌜ (AscL 0 (now (cells .entry)) → All (Inside maxCoordinate) (now (cells .entry)) → found r ≡ squareTest size (now (cells .entry)) (pt p) width) ⌝ }
+{
+    let d = width / 2.0;
+    first(
+        cells,
+        around(size, p.x, d),
+        Shape::Flat(around(size, p.y, d)),
+    )
+}
+
+// `is_circle_occupied`
+fn circle(size: f64, cells: &[u64], p: Point, radius: f64) -> Found
+    ensures { λ r. ⌜ (AscL 0 (now (cells .entry)) → All (Inside maxCoordinate) (now (cells .entry)) → found r ≡ circleTest size (now (cells .entry)) (pt p) radius) ⌝ }
+{
+    first(
+        cells,
+        around(size, p.x, radius),
+        Shape::Round(around(size, p.y, radius), Circle::new(size, p, radius)),
+    )
+}
+
+// `is_sweep_occupied`; 1e-8 as there.
+fn sweep(size: f64, cells: &[u64], p0: Point, p1: Point, width: f64) -> Found
+    ensures { λ r. ⌜ (AscL 0 (now (cells .entry)) → All (Inside maxCoordinate) (now (cells .entry)) → found r ≡ sweepTest size (now (cells .entry)) (pt p0) (pt p1) width) ⌝ }
+{
+    let length = p1.minus(p0).norm();
+    if length < 1e-8 {
+        return point(size, cells, p0);
+    }
+    let strip = Strip::new(p0, p1, length, width / 2.0);
+    first(cells, strip.columns(size), Shape::Swept(strip, size))
+}
+
+// The first occupied cell, by x, then y, that qualifies.
+pub fn search(size: f64, cells: &[u64], question: Question) -> Found
+    ensures { λ r. ⌜ (AscL 0 (now (cells .entry)) → All (Inside maxCoordinate) (now (cells .entry)) → found r ≡ ask size (now (cells .entry)) (asked question)) ⌝ }
+{
+    match question {
+        Question::Point(p) => point(size, cells, p),
+        Question::Square(p, width) => square(size, cells, p, width),
+        Question::Circle(p, radius) => circle(size, cells, p, radius),
+        Question::Sweep(p0, p1, width) => sweep(size, cells, p0, p1, width),
+    }
+}
