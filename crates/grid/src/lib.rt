@@ -1,2 +1,5 @@
-// Cells (the Rust's sparse_grid.rs).
+// Cells, and batches on them (the Rust's sparse_grid.rs).
+pub mod batch;
 pub mod cell;
+pub mod floor;
+pub mod judge;

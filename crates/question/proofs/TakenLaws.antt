@@ -26,8 +26,7 @@ use Rattle.shape.proofs.CircleLaws.{circle-in-box, circle-out-of-box}
 use Rattle.shape.proofs.SweepLaws.{sweep-cells}
 use Rattle.table.specs.Tables.{All}
 use Rattle.table.proofs.AllLaws.{all-map}
-use Rattle.question.specs.Walk.{boundsAround, taken}
-use Rattle.question.specs.declared.walk.Shape.{Shape}
+use Rattle.question.specs.Walk.{boundsAround, flat, round, swept, taken}
 use Rattle.question.proofs.FindLaws.{find-agree}
 use Rattle.question.proofs.WalkLaws.{answer}
 
@@ -44,11 +43,11 @@ module _ (c : Float) (k : ℕ) (h : Inside maxCoordinate k) where
   box-looked p d =
       rw (looked (div binary64 (sub binary64 (p .x) d) c) (div binary64 (add binary64 (p .x) d) c) (col k) column-low, looked (div binary64 (sub binary64 (p .y) d) c) (div binary64 (add binary64 (p .y) d) c) (row k) row-low) refl
 
-  pub flat-taken : (p : Pt) (d : Float) → taken (boundsAround c (p .x) d) (Shape.Flat (boundsAround c (p .y) d)) k ≡ inBox c p d k
+  pub flat-taken : (p : Pt) (d : Float) → taken (boundsAround c (p .x) d) (flat (boundsAround c (p .y) d)) k ≡ inBox c p d k
   flat-taken p d =
       ap (λ (b : Bool). inBounds (boundsAround c (p .x) d) (col k) && b) (and-true (inBounds (boundsAround c (p .y) d) (row k))) ∙ sym (box-looked p d)
 
-  pub round-taken : (p : Pt) (r : Float) → taken (boundsAround c (p .x) r) (Shape.Round (boundsAround c (p .y) r) (circleOf c p r)) k ≡ inCircle c p r k
+  pub round-taken : (p : Pt) (r : Float) → taken (boundsAround c (p .x) r) (round (boundsAround c (p .y) r) (circleOf c p r)) k ≡ inCircle c p r k
   round-taken p r =
       sym (and-assoc (inBounds (boundsAround c (p .x) r) (col k)) (inBounds (boundsAround c (p .y) r) (row k)) (circleMeets (circleOf c p r) k))
       ∙ ap (λ (b : Bool). b && circleMeets (circleOf c p r) k) (sym (box-looked p r))
@@ -58,7 +57,7 @@ module _ (c : Float) (k : ℕ) (h : Inside maxCoordinate k) where
       go true e = circle-in-box c p r k e
       go false e = sym (circle-out-of-box c p r k e)
 
-  pub swept-taken : (q : Strip) → taken (columnsOf c (strip q)) (Shape.Swept q c) k ≡ inStrip c (strip q) k
+  pub swept-taken : (q : Strip) → taken (columnsOf c (strip q)) (swept q c) k ≡ inStrip c (strip q) k
   swept-taken q =
       ap (λ (b : Bool). inBounds (columnsOf c (strip q)) (col k) && b) (and-true (inBounds (rowsOf c (strip q) (col k)) (row k))) ∙ sym (sweep-cells c (strip q) k column-low row-low)
 
@@ -86,23 +85,23 @@ found-same p q C a f = ap answer (find-agree p q C (all-map C f a))
 module _ (c : Float) (C : List ℕ) (inside : All (Inside maxCoordinate) C) (f : Found) (X : Bounds) where
   module _ (p : Pt) (Y : Bounds) where
     pub square-found : (w : Float) → X ≡ boundsAround c (p .x) (div binary64 w (pow2 1)) → Y ≡ boundsAround c (p .y) (div binary64 w (pow2 1))
-        → f ≡ answer (find (taken X (Shape.Flat Y)) C) → f ≡ squareTest c C p w
+        → f ≡ answer (find (taken X (flat Y)) C) → f ≡ squareTest c C p w
     unfolding squareTest
     square-found w x y e =
         let d = div binary64 w (pow2 1) in
-        e ∙ rw (x, y) (found-same (taken (boundsAround c (p .x) d) (Shape.Flat (boundsAround c (p .y) d))) (inBox c p d) C inside (λ k h. flat-taken c k h p d))
+        e ∙ rw (x, y) (found-same (taken (boundsAround c (p .x) d) (flat (boundsAround c (p .y) d))) (inBox c p d) C inside (λ k h. flat-taken c k h p d))
 
     pub circle-found : (r : Float) (g : Circle) → X ≡ boundsAround c (p .x) r → Y ≡ boundsAround c (p .y) r → g ≡ circleOf c p r
-        → f ≡ answer (find (taken X (Shape.Round Y g)) C) → f ≡ circleTest c C p r
+        → f ≡ answer (find (taken X (round Y g)) C) → f ≡ circleTest c C p r
     unfolding circleTest
     circle-found r g x y o e =
-        e ∙ rw (x, y, o) (found-same (taken (boundsAround c (p .x) r) (Shape.Round (boundsAround c (p .y) r) (circleOf c p r))) (inCircle c p r) C inside (λ k h. round-taken c k h p r))
+        e ∙ rw (x, y, o) (found-same (taken (boundsAround c (p .x) r) (round (boundsAround c (p .y) r) (circleOf c p r))) (inCircle c p r) C inside (λ k h. round-taken c k h p r))
 
   pub sweep-found : (p0 p1 : Pt) (w : Float) (q : Strip) → lt (norm (minus p1 p0)) tiny ≡ false → strip q ≡ stripOf p0 p1 (div binary64 w (pow2 1)) → X ≡ columnsOf c (strip q)
-      → f ≡ answer (find (taken X (Shape.Swept q c)) C) → f ≡ sweepTest c C p0 p1 w
+      → f ≡ answer (find (taken X (swept q c)) C) → f ≡ sweepTest c C p0 p1 w
   unfolding sweepTest
   sweep-found p0 p1 w q n s x e =
-      rw (n, ← s) (e ∙ rw x (found-same (taken (columnsOf c (strip q)) (Shape.Swept q c)) (inStrip c (strip q)) C inside (λ k h. swept-taken c k h q)))
+      rw (n, ← s) (e ∙ rw x (found-same (taken (columnsOf c (strip q)) (swept q c)) (inStrip c (strip q)) C inside (λ k h. swept-taken c k h q)))
 
 pub sweep-short : (c : Float) (C : List ℕ) (p0 p1 : Pt) (w : Float) → lt (norm (minus p1 p0)) tiny ≡ true → pointTest c C p0 ≡ sweepTest c C p0 p1 w
 unfolding sweepTest

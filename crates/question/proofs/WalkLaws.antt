@@ -23,8 +23,7 @@ use Rattle.table.proofs.AllLaws.{all-at, all-from, all-map, ascL-all, ascL-drop
 use Rattle.table.proofs.ColumnLaws.{column-ascends, column-one, rows-ascend}
 use Rattle.table.proofs.RankLaws.{rank-le, rank-splits}
 use Rattle.table.proofs.SiftLaws.{sift-below, sift-same}
-use Rattle.question.specs.Walk.{columnTaken, passes, rowTaken, rowsAt, taken}
-use Rattle.question.specs.declared.walk.Shape.{Shape}
+use Rattle.question.specs.Walk.{Shape, columnTaken, passes, rowTaken, rowsAt, taken}
 use Rattle.question.proofs.FindLaws.{all-kept, all-rest, find-agree, find-back, find-front, find-here, find-later, find-nowhere, find-sift}
 
 -- what a test answers

@@ -10,9 +10,10 @@ use Rattle.shape.specs.Bounds.{between, inBounds}
 use Rattle.shape.specs.Circle.{circleMeets}
 use Rattle.shape.specs.Sweep.{strip, rowsOf}
 use Rattle.shape.specs.declared.bounds.Bounds.{Bounds}
+use Rattle.shape.specs.declared.circle.Circle.{Circle}
+use Rattle.shape.specs.declared.sweep.Strip.{Strip}
 use Rattle.question.specs.declared.search.Found.{Found}
 use Rattle.question.specs.declared.search.Spot.{Spot}
-use Rattle.question.specs.declared.walk.Shape.{Shape}
 
 -- ---- an answer: a cell's key, or none
 abbrev pub spotted : Spot → Option ℕ
@@ -26,16 +27,22 @@ found f = record { cell = spotted (f .cell) }
 abbrev pub boundsAround : Float → Float → Float → Bounds
 boundsAround c z d = between (div binary64 (sub binary64 z d) c) (div binary64 (add binary64 z d) c)
 
--- ---- the rows of column x, and whether a cell there passes
+-- ---- what a shape takes of a column: a square the same rows everywhere, a circle the cells that it meets of the same rows, a swept strip rows of its own
+pub data Shape : Type 0 where
+  flat : Bounds → Shape
+  round : Bounds → Circle → Shape
+  swept : Strip → Float → Shape
+
+-- the rows of column x, and whether a cell there passes
 abbrev pub rowsAt : Shape → ℕ → Bounds
-rowsAt (Shape.Flat b) x = b
-rowsAt (Shape.Round b g) x = b
-rowsAt (Shape.Swept q c) x = rowsOf c (strip q) x
+rowsAt (flat b) x = b
+rowsAt (round b g) x = b
+rowsAt (swept q c) x = rowsOf c (strip q) x
 
 abbrev pub passes : Shape → ℕ → Bool
-passes (Shape.Flat b) k = true
-passes (Shape.Round b g) k = circleMeets g k
-passes (Shape.Swept q c) k = true
+passes (flat b) k = true
+passes (round b g) k = circleMeets g k
+passes (swept q c) k = true
 
 -- of cells from the first row on, those below the row high
 abbrev pub rowTaken : ℕ → Shape → ℕ → Bool

@@ -1,6 +1,7 @@
 // The four tests on a table of cells. Nothing is asked of the table, and no number is refused here.
-use crate::walk::Shape;
-use crate::walk::first;
+use crate::walk::first_flat;
+use crate::walk::first_round;
+use crate::walk::first_swept;
 use plane::point::Point;
 use shape::bounds::Bounds;
 use shape::circle::Circle;
@@ -61,21 +62,18 @@ fn square(size: f64, cells: &[u64], p: Point, width: f64) -> Found
     ensures { λ r. ⌜ (AscL 0 (now (cells .entry)) → All (Inside maxCoordinate) (now (cells .entry)) → found r ≡ squareTest size (now (cells .entry)) (pt p) width) ⌝ }
 {
     let d = width / 2.0;
-    first(
-        cells,
-        around(size, p.x, d),
-        Shape::Flat(around(size, p.y, d)),
-    )
+    first_flat(cells, around(size, p.x, d), around(size, p.y, d))
 }
 
 // `is_circle_occupied`
 fn circle(size: f64, cells: &[u64], p: Point, radius: f64) -> Found
     ensures { λ r. ⌜ (AscL 0 (now (cells .entry)) → All (Inside maxCoordinate) (now (cells .entry)) → found r ≡ circleTest size (now (cells .entry)) (pt p) radius) ⌝ }
 {
-    first(
+    first_round(
         cells,
         around(size, p.x, radius),
-        Shape::Round(around(size, p.y, radius), Circle::new(size, p, radius)),
+        around(size, p.y, radius),
+        Circle::new(size, p, radius),
     )
 }
 
@@ -88,7 +86,7 @@ fn sweep(size: f64, cells: &[u64], p0: Point, p1: Point, width: f64) -> Found
         return point(size, cells, p0);
     }
     let strip = Strip::new(p0, p1, length, width / 2.0);
-    first(cells, strip.columns(size), Shape::Swept(strip, size))
+    first_swept(cells, strip.columns(size), strip, size)
 }
 
 // The first occupied cell, by x, then y, that qualifies.

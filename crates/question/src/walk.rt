@@ -1,5 +1,6 @@
 // The first cell that a shape takes, by columns and rows. A column is a stretch of the table, and the rows asked for
-// are a stretch that begins inside it.
+// are a stretch that begins inside it. The three walks differ in what they ask of a column; one walk over an enum of
+// shapes took twice as long for a square.
 use crate::search::Found;
 use crate::search::Spot;
 use shape::bounds::Bounds;
@@ -11,45 +12,36 @@ use table::place::place;
 ghost use mathlib.Core.Path.{_≡_};
 ghost use Prim.Native.Nat.{ℕ};
 ghost use Rattle.model.specs.Maps.{AscL, find};
+ghost use Rattle.shape.specs.declared.bounds.Bounds.{Bounds};
 ghost use Rattle.table.specs.Columns.{InColumn};
-ghost use Rattle.question.specs.Walk.{columnTaken, found, passes, rowTaken, rowsAt, taken};
+ghost use Rattle.question.specs.Walk.{columnTaken, flat, found, round, rowTaken, swept, taken};
 
 // Keys from one column to the next.
 const WIDTH: u64 = 4294967296;
 
-// What a shape takes of a column: a square the same rows everywhere, a circle the cells that it meets of the same rows,
-// a swept strip rows of its own.
-pub(crate) enum Shape {
-    Flat(Bounds),
-    Round(Bounds, Circle),
-    Swept(Strip, f64),
+// ---- one column
+
+// The first of the cells from a row on, if it lies below the row `high`.
+fn lowest(rows: &[u64], high: u64) -> Found
+    ensures { λ r. ⌜ ((x : ℕ) (b : Bounds) → AscL 0 (now (rows .entry)) → InColumn x (now (rows .entry)) → found r ≡ record { cell = find (rowTaken high (flat b)) (now (rows .entry)) }) ⌝ }
+{
+    if rows.len() == 0 {
+        return Found {
+            cell: Spot::Nothing,
+        };
+    }
+    let k = rows[0];
+    if high <= k % WIDTH {
+        return Found {
+            cell: Spot::Nothing,
+        };
+    }
+    Found { cell: Spot::At(k) }
 }
 
-impl Shape {
-    fn rows(self, x: u64) -> Bounds
-        ensures { λ r. ⌜ r ≡ rowsAt self x ⌝ }
-    {
-        match self {
-            Shape::Flat(rows) => rows,
-            Shape::Round(rows, _) => rows,
-            Shape::Swept(strip, size) => strip.rows(size, x),
-        }
-    }
-
-    fn passes(self, cell: u64) -> bool
-        ensures { λ r. ⌜ r ≡ passes self cell ⌝ }
-    {
-        match self {
-            Shape::Flat(_) => true,
-            Shape::Round(_, circle) => circle.meets(cell),
-            Shape::Swept(_, _) => true,
-        }
-    }
-}
-
-// The first of a column's cells, from a row on, that lies below the row `high` and passes.
-fn first_of(rows: &[u64], high: u64, shape: Shape) -> Found
-    ensures { λ r. ⌜ ((x : ℕ) → AscL 0 (now (rows .entry)) → InColumn x (now (rows .entry)) → found r ≡ record { cell = find (rowTaken high shape) (now (rows .entry)) }) ⌝ }
+// The first of the cells from a row on that lies below the row `high` and that the circle meets.
+fn first_met(rows: &[u64], high: u64, circle: Circle) -> Found
+    ensures { λ r. ⌜ ((x : ℕ) (b : Bounds) → AscL 0 (now (rows .entry)) → InColumn x (now (rows .entry)) → found r ≡ record { cell = find (rowTaken high (round b circle)) (now (rows .entry)) }) ⌝ }
 {
     let mut i = 0;
     while i < rows.len() {
@@ -59,7 +51,7 @@ fn first_of(rows: &[u64], high: u64, shape: Shape) -> Found
                 cell: Spot::Nothing,
             };
         }
-        if shape.passes(k) {
+        if circle.meets(k) {
             return Found { cell: Spot::At(k) };
         }
         i += 1;
@@ -69,17 +61,29 @@ fn first_of(rows: &[u64], high: u64, shape: Shape) -> Found
     }
 }
 
-// The first cell of column x that the shape takes.
-fn first_in(col: &[u64], x: u64, shape: Shape) -> Found
-    ensures { λ r. ⌜ (AscL 0 (now (col .entry)) → InColumn x (now (col .entry)) → found r ≡ record { cell = find (λ k. columnTaken shape x k) (now (col .entry)) }) ⌝ }
+fn flat_in(col: &[u64], rows: Bounds) -> Found
+    ensures { λ r. ⌜ ((x : ℕ) → AscL 0 (now (col .entry)) → InColumn x (now (col .entry)) → found r ≡ record { cell = find (columnTaken (flat rows) x) (now (col .entry)) }) ⌝ }
 {
-    let rows = shape.rows(x);
-    first_of(rows_from(col, rows.low), rows.high, shape)
+    lowest(rows_from(col, rows.low), rows.high)
 }
 
-// The first cell that the shape takes.
-pub(crate) fn first(cells: &[u64], columns: Bounds, shape: Shape) -> Found
-    ensures { λ r. ⌜ (AscL 0 (now (cells .entry)) → found r ≡ record { cell = find (taken columns shape) (now (cells .entry)) }) ⌝ }
+fn round_in(col: &[u64], rows: Bounds, circle: Circle) -> Found
+    ensures { λ r. ⌜ ((x : ℕ) → AscL 0 (now (col .entry)) → InColumn x (now (col .entry)) → found r ≡ record { cell = find (columnTaken (round rows circle) x) (now (col .entry)) }) ⌝ }
+{
+    first_met(rows_from(col, rows.low), rows.high, circle)
+}
+
+fn swept_in(col: &[u64], x: u64, strip: Strip, size: f64) -> Found
+    ensures { λ r. ⌜ (AscL 0 (now (col .entry)) → InColumn x (now (col .entry)) → found r ≡ record { cell = find (columnTaken (swept strip size) x) (now (col .entry)) }) ⌝ }
+{
+    flat_in(col, strip.rows(size, x))
+}
+
+// ---- all columns
+
+// The same rows in every column.
+pub(crate) fn first_flat(cells: &[u64], columns: Bounds, rows: Bounds) -> Found
+    ensures { λ r. ⌜ (AscL 0 (now (cells .entry)) → found r ≡ record { cell = find (taken columns (flat rows)) (now (cells .entry)) }) ⌝ }
 {
     if WIDTH <= columns.low {
         return Found {
@@ -95,7 +99,77 @@ pub(crate) fn first(cells: &[u64], columns: Bounds, shape: Shape) -> Found
             };
         }
         let col = column(&cells[i..], x);
-        let here = first_in(col, x, shape);
+        let here = flat_in(col, rows);
+        let spot = here.cell;
+        if let Spot::At(_) = spot {
+            return here;
+        }
+        let n = col.len();
+        if n == 0 {
+            i += 1;
+        } else {
+            i += n;
+        }
+    }
+    Found {
+        cell: Spot::Nothing,
+    }
+}
+
+// The cells that a circle meets, of the same rows in every column.
+pub(crate) fn first_round(cells: &[u64], columns: Bounds, rows: Bounds, circle: Circle) -> Found
+    ensures { λ r. ⌜ (AscL 0 (now (cells .entry)) → found r ≡ record { cell = find (taken columns (round rows circle)) (now (cells .entry)) }) ⌝ }
+{
+    if WIDTH <= columns.low {
+        return Found {
+            cell: Spot::Nothing,
+        };
+    }
+    let mut i = place(cells, columns.low * WIDTH);
+    while i < cells.len() {
+        let x = cells[i] / WIDTH;
+        if columns.high <= x {
+            return Found {
+                cell: Spot::Nothing,
+            };
+        }
+        let col = column(&cells[i..], x);
+        let here = round_in(col, rows, circle);
+        let spot = here.cell;
+        if let Spot::At(_) = spot {
+            return here;
+        }
+        let n = col.len();
+        if n == 0 {
+            i += 1;
+        } else {
+            i += n;
+        }
+    }
+    Found {
+        cell: Spot::Nothing,
+    }
+}
+
+// In each column the rows of a swept strip.
+pub(crate) fn first_swept(cells: &[u64], columns: Bounds, strip: Strip, size: f64) -> Found
+    ensures { λ r. ⌜ (AscL 0 (now (cells .entry)) → found r ≡ record { cell = find (taken columns (swept strip size)) (now (cells .entry)) }) ⌝ }
+{
+    if WIDTH <= columns.low {
+        return Found {
+            cell: Spot::Nothing,
+        };
+    }
+    let mut i = place(cells, columns.low * WIDTH);
+    while i < cells.len() {
+        let x = cells[i] / WIDTH;
+        if columns.high <= x {
+            return Found {
+                cell: Spot::Nothing,
+            };
+        }
+        let col = column(&cells[i..], x);
+        let here = swept_in(col, x, strip, size);
         let spot = here.cell;
         if let Spot::At(_) = spot {
             return here;

@@ -15,8 +15,8 @@ around-requires-2 c κs = search needs
 new-requires : tie.Need-new-requires
 new-requires c κs = search needs
 
-first-requires : tie.Need-first-requires
-first-requires c κs = search needs
+first-round-requires : tie.Need-first-round-requires
+first-round-requires c κs = search needs
 
 returns : tie.Need-returns
 returns c =
@@ -24,8 +24,8 @@ returns c =
     let y = g .before in
     let x = y .before in
     let s = x .before .before .args in
-    λ a i. circle-found (s .size) (s .cells .now) i (found (c .first .result)) (x .around .result) (pt (s .p)) (y .around2 .result) (s .radius) (g .new .result) (x .around .ensures) (y .around2 .ensures) (g .new .ensures) (c .first .ensures a)
+    λ a i. circle-found (s .size) (s .cells .now) i (found (c .first-round .result)) (x .around .result) (pt (s .p)) (y .around2 .result) (s .radius) (g .new .result) (x .around .ensures) (y .around2 .ensures) (g .new .ensures) (c .first-round .ensures a)
 
 pub circle-spec : {M : Type 1} → statement M
 circle-spec =
-    tie.close (tie.spec around-requires around-requires-2 new-requires first-requires returns)
+    tie.close (tie.spec around-requires around-requires-2 new-requires first-round-requires returns)

@@ -13,8 +13,8 @@ around-requires c κs = search needs
 around-requires-2 : tie.Need-around-requires-2
 around-requires-2 c κs = search needs
 
-first-requires : tie.Need-first-requires
-first-requires c κs = search needs
+first-flat-requires : tie.Need-first-flat-requires
+first-flat-requires c κs = search needs
 
 returns : tie.Need-returns
 unfolding ofBits
@@ -22,7 +22,7 @@ returns c =
     let y = c .before in
     let x = y .before in
     let s = x .before .before .args in
-    λ a i. square-found (s .size) (s .cells .now) i (found (c .first .result)) (x .around .result) (pt (s .p)) (y .around2 .result) (s .width) (x .around .ensures) (y .around2 .ensures) (c .first .ensures a)
+    λ a i. square-found (s .size) (s .cells .now) i (found (c .first-flat .result)) (x .around .result) (pt (s .p)) (y .around2 .result) (s .width) (x .around .ensures) (y .around2 .ensures) (c .first-flat .ensures a)
 
 pub square-spec : {M : Type 1} → statement M
-square-spec = tie.close (tie.spec around-requires around-requires-2 first-requires returns)
+square-spec = tie.close (tie.spec around-requires around-requires-2 first-flat-requires returns)

@@ -37,8 +37,8 @@ new-requires c κs = search needs
 columns-requires : tie.Need-columns-requires
 columns-requires c κs = search needs
 
-first-requires : tie.Need-first-requires
-first-requires c κs = search needs
+first-swept-requires : tie.Need-first-swept-requires
+first-swept-requires c κs = search needs
 
 returns-2 : tie.Need-returns-2
 unfolding tiny
@@ -48,7 +48,7 @@ returns-2 c =
     let n = q .before .before in
     let s = n .before .before .before .args in
     let t : lt (norm (minus (pt (s .p1)) (pt (s .p0)))) tiny ≡ false = rw (way n) at (q .before .if1 .left) in
-    λ a i. sweep-found (s .size) (s .cells .now) i (found (c .first .result)) (x .columns .result) (pt (s .p0)) (pt (s .p1)) (s .width) (q .new .result) t (unfold ofBits in (q .new .ensures (way n))) (x .columns .ensures) (c .first .ensures a)
+    λ a i. sweep-found (s .size) (s .cells .now) i (found (c .first-swept .result)) (x .columns .result) (pt (s .p0)) (pt (s .p1)) (s .width) (q .new .result) t (unfold ofBits in (q .new .ensures (way n))) (x .columns .ensures) (c .first-swept .ensures a)
 
 pub sweep-spec : {M : Type 1} → statement M
 sweep-spec =
@@ -60,5 +60,5 @@ sweep-spec =
     returns
     new-requires
     columns-requires
-    first-requires
+    first-swept-requires
     returns-2)

@@ -1,33 +1,34 @@
--- `walk::first`: what is left of the table has the same first cell. Assumes nothing.
+-- `walk::first_flat`: what is left of the table has the same first cell. Assumes nothing.
 use Prim.Native.Nat.{_-_}
 use native.Mathlib.Omega.{arith}
 use mathlib.Core.Path.{_≡_, sym, ap, _∙_}
-use lib.ListN.{length, drop}
+use lib.ListN.{length, drop, getD}
 use borrow.Author.Needs.{needs}
+use Rattle.model.specs.Cell.{col}
 use Rattle.model.specs.Maps.{AscL, find}
-use Rattle.question.specs.Walk.{found, spotted, taken}
+use Rattle.question.specs.Walk.{flat, found, spotted, taken}
 use Rattle.question.proofs.WalkLaws.{answer, below, column-here, column-next, column-past, column-some, find-past, low-beyond, low-passed}
-use Rattle.question.proofs.walk.first.Statement.{statement}
-use Rattle.question.proofs.walk.first.Tie as tie
+use Rattle.question.proofs.walk.first_flat.Statement.{statement}
+use Rattle.question.proofs.walk.first_flat.Tie as tie
 
 abbrev Inv-loop : tie.InvT-loop
-Inv-loop cells columns shape i₀ i = AscL 0 cells → find (taken columns shape) cells ≡ find (below (columns .high) shape) (drop i cells)
+Inv-loop cells columns rows i₀ i = AscL 0 cells → find (taken columns (flat rows)) cells ≡ find (below (columns .high) (flat rows)) (drop i cells)
 
 abbrev μ-loop : tie.MeasureT-loop
-μ-loop cells columns shape i₀ i = length cells - i
+μ-loop cells columns rows i₀ i = length cells - i
 
 -- the arguments, from the loop's test on; and that test, from what was found in the column on
 abbrev start : tie.At-loop Inv-loop μ-loop → tie.Start Inv-loop μ-loop
 start p = p .before .before .before .before .before .before
 
-abbrev test : tie.After-first-in Inv-loop μ-loop → tie.At-loop Inv-loop μ-loop
+abbrev test : tie.After-flat-in Inv-loop μ-loop → tie.At-loop Inv-loop μ-loop
 test t = t .before .before .before .before .before .before .before
 
 returns : tie.Need-returns Inv-loop μ-loop
 returns c =
     let k = c .before .before in
     let s = k .before .args in
-    λ a. ap answer (low-beyond (s .columns) (s .shape) (s .cells .now) (omega arith) (λ i. k .shared-slice-known .given i .fits))
+    λ a. ap answer (low-beyond (s .columns) (flat (s .rows)) (s .cells .now) (omega arith) (λ i. k .shared-slice-known .given i .fits))
 
 mul-place : tie.Need-mul-place Inv-loop μ-loop
 mul-place c = omega arith
@@ -38,7 +39,7 @@ place-requires c κs = search needs
 loop-holds : tie.Need-loop-holds Inv-loop μ-loop
 loop-holds c =
     let s = c .before .before .before .before .before .args in
-    λ a. low-passed (s .columns) (s .shape) (s .cells .now) (c .place .result) a (c .place .ensures .1 a)
+    λ a. low-passed (s .columns) (flat (s .rows)) (s .cells .now) (c .place .result) a (c .place .ensures .1 a)
 
 mul-x : tie.Need-mul-x Inv-loop μ-loop
 mul-x c = omega arith
@@ -50,7 +51,7 @@ returns-2 : tie.Need-returns-2 Inv-loop μ-loop
 returns-2 c =
     let p = c .before .before .before .before in
     let s = start p .args in
-    λ a. ap answer (sym (p .loop .inv a ∙ column-past (s .columns .high) (s .shape) (s .cells .now) (p .loop .i) (omega arith) a (omega arith)))
+    λ a. ap answer (sym (p .loop .inv a ∙ column-past (s .columns .high) (flat (s .rows)) (s .cells .now) (p .loop .i) (omega arith) a (omega arith)))
 
 mul-column : tie.Need-mul-column Inv-loop μ-loop
 mul-column c = omega arith
@@ -67,8 +68,8 @@ part-column-end c = omega arith
 column-requires : tie.Need-column-requires Inv-loop μ-loop
 column-requires c κs = search needs
 
-first-in-requires : tie.Need-first-in-requires Inv-loop μ-loop
-first-in-requires c κs = search needs
+flat-in-requires : tie.Need-flat-in-requires Inv-loop μ-loop
+flat-in-requires c κs = search needs
 
 enum-told : tie.Need-enum-told Inv-loop μ-loop
 enum-told c = search needs
@@ -83,7 +84,7 @@ returns-3 c =
     λ a.
     ap answer
     (sym (p .loop .inv a
-    ∙ column-here (s .columns .high) (s .shape) (s .cells .now) (p .loop .i) (omega arith) a (k .column .result .now) (k .column .ensures) (omega arith) (found (t .first-in .result)) (t .first-in .ensures) (w .0 .0) (ap spotted (w .1))))
+    ∙ column-here (s .columns .high) (flat (s .rows)) (s .cells .now) (p .loop .i) (omega arith) a (k .column .result .now) (k .column .ensures) (omega arith) (found (t .flat-in .result)) (t .flat-in .ensures (col (getD (s .cells .now) (p .loop .i) 0))) (w .0 .0) (ap spotted (w .1))))
 
 enum-told-2 : tie.Need-enum-told-2 Inv-loop μ-loop
 enum-told-2 c = search needs
@@ -100,7 +101,7 @@ loop-again c =
     let p = test t in
     let s = start p .args in
     let k = t .before in
-    λ a. absurd (column-some (s .columns .high) (s .shape) (s .cells .now) (p .loop .i) (omega arith) a (k .column .result .now) (k .column .ensures) (omega arith))
+    λ a. absurd (column-some (s .columns .high) (flat (s .rows)) (s .cells .now) (p .loop .i) (omega arith) a (k .column .result .now) (k .column .ensures) (omega arith))
 
 add-i-2 : tie.Need-add-i-2 Inv-loop μ-loop
 add-i-2 c = omega arith
@@ -117,16 +118,16 @@ loop-again-2 c =
     let w = c .before .enum-told2 .given in
     λ a.
     p .loop .inv a
-    ∙ column-next (s .columns .high) (s .shape) (s .cells .now) (p .loop .i) (omega arith) a (k .column .result .now) (k .column .ensures) (omega arith) (found (t .first-in .result)) (t .first-in .ensures) (ap spotted (w .1))
+    ∙ column-next (s .columns .high) (flat (s .rows)) (s .cells .now) (p .loop .i) (omega arith) a (k .column .result .now) (k .column .ensures) (omega arith) (found (t .flat-in .result)) (t .flat-in .ensures (col (getD (s .cells .now) (p .loop .i) 0))) (ap spotted (w .1))
 
 returns-4 : tie.Need-returns-4 Inv-loop μ-loop
 returns-4 c =
     let p = c .before in
     let s = start p .args in
-    λ a. ap answer (sym (p .loop .inv a ∙ find-past (below (s .columns .high) (s .shape)) (s .cells .now) (p .loop .i) (omega arith)))
+    λ a. ap answer (sym (p .loop .inv a ∙ find-past (below (s .columns .high) (flat (s .rows))) (s .cells .now) (p .loop .i) (omega arith)))
 
-pub first-spec : {M : Type 1} → statement M
-first-spec =
+pub first-flat-spec : {M : Type 1} → statement M
+first-flat-spec =
     tie.close
     (tie.spec
     Inv-loop
@@ -143,7 +144,7 @@ first-spec =
     part-column-start
     part-column-end
     column-requires
-    first-in-requires
+    flat-in-requires
     enum-told
     returns-3
     enum-told-2

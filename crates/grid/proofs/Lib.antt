@@ -1,0 +1,10 @@
+-- The laws of crate `grid`.
+pub mod BatchLaws
+pub mod EntryLaws
+pub mod ListedLaws
+pub mod ListingLaws
+pub mod SetLaws
+pub mod SignedLaws
+pub mod SizeLaws
+pub mod TurnLaws
+pub mod WriteLaws

@@ -1,0 +1,51 @@
+-- A batch as it is handed in, its confirmed changes as they are listed, and what such a list does to a table. Definitions only.
+use Prim.Native.Nat.{ℕ, zero, suc, _≤_}
+use mathlib.Core.Path.{_≡_}
+use mathlib.Core.Bool.{Bool, true, false, not, cond, Bool·beq}
+use mathlib.Core.List.{List, [], _∷_}
+use lib.Dec.{ltb}
+use lib.ListN.{length, take}
+use lib.IntN.{ℤ, pos, negsuc}
+use Rattle.model.specs.Batch.{Batch, write}
+use Rattle.model.specs.Limits.{maxBatch}
+use Rattle.model.specs.Map.{Entry}
+use Rattle.model.specs.Maps.{keys}
+use Rattle.model.specs.Refusal.{firstOf, unsorted, outside}
+use Rattle.table.specs.Listed.{values}
+use Rattle.table.specs.Tables.{Table}
+
+-- 0 is free, any other number occupied
+abbrev pub isFull : ℤ → Bool
+isFull (pos zero) = false
+isFull (pos (suc n)) = true
+isFull (negsuc n) = true
+
+-- three numbers an entry; what is left over at the end is none
+abbrev pub entries : List ℤ → List Entry
+entries [] = []
+entries (x ∷ []) = []
+entries (x ∷ y ∷ []) = []
+entries (x ∷ y ∷ o ∷ l) = record { x = x; y = y; full = isFull o } ∷ entries l
+
+-- 3, 4 and 5 of the model's `judge`, in its order
+unfoldable pub refuseBatch : List Entry → ℕ
+refuseBatch l = firstOf ((3, ltb maxBatch (length l)) ∷ (4, unsorted l) ∷ (5, outside l) ∷ [])
+
+-- an entry on a cell that is occupied or not alters it
+abbrev pub alters : Bool → Bool → Bool
+alters there full = not (Bool·beq there full)
+
+-- confirmed changes as they are listed: 1 for occupied, 0 for free
+abbrev pub flags : Batch → List (ℕ × ℕ)
+flags [] = []
+flags (e ∷ b) = (e .0, cond (e .1) 1 0) ∷ flags b
+
+-- the entries that say v, in turn
+unfoldable pub writes : Bool → Batch → List ℕ → List ℕ
+writes v [] C = C
+writes v (e ∷ b) C = writes v b (cond (Bool·beq (e .1) v) (write (e .0) v C) C)
+
+-- the table t with n keys became t′ with r keys: those entries of the listed batch that say v were written, where they fit
+abbrev pub Written : Bool → List ℕ → List ℕ → List ℕ → ℕ → List ℕ → ℕ → Type 0
+Written v turned full t n t′ r =
+    (b : Batch) → turned ≡ keys b → full ≡ values (flags b) → Table t n → length (writes v b (take n t)) ≤ length t → Table t′ r × (take r t′ ≡ writes v b (take n t))
