@@ -1,6 +1,7 @@
 -- The laws of crate `grid`.
 pub mod BatchLaws
 pub mod EntryLaws
+pub mod FloorLaws
 pub mod ListedLaws
 pub mod ListingLaws
 pub mod SetLaws

@@ -87,7 +87,8 @@ pub fn confirm(cells: &[u64], batch: &[i64], out: &mut [u64], full: &mut [u8]) -
         → length (entries (now (batch .entry))) ≤ length (now (out .entry)) → length (entries (now (batch .entry))) ≤ length (now (full .entry))
         → Listed (flags (confirmed (toBatch (entries (now (batch .entry)))) (now (cells .entry)))) (now (out .entry)) (now (out .exit)) (now (full .entry)) (now (full .exit)) r)
         × (length (now (out .entry)) < length (entries (now (batch .entry))) → Unlisted (now (out .entry)) (now (out .exit)) (now (full .entry)) (now (full .exit)) r)
-        × (length (now (full .entry)) < length (entries (now (batch .entry))) → Unlisted (now (out .entry)) (now (out .exit)) (now (full .entry)) (now (full .exit)) r) ⌝ }
+        × (length (now (full .entry)) < length (entries (now (batch .entry))) → Unlisted (now (out .entry)) (now (out .exit)) (now (full .entry)) (now (full .exit)) r)
+        × (r ≤ length (entries (now (batch .entry)))) ⌝ }
 {
     if out.len() < batch.len() / 3 || full.len() < batch.len() / 3 {
         return 0;

@@ -1,4 +1,5 @@
 -- The laws of crate `question`.
+pub mod AskLaws
 pub mod FindLaws
 pub mod NumberLaws
 pub mod TakenLaws

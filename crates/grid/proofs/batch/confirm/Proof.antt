@@ -1,5 +1,5 @@
 -- `batch::confirm`: what is listed, and the entries that are left. Assumes nothing.
-use Prim.Native.Nat.{_-_, _/_, _≤_}
+use Prim.Native.Nat.{_-_, _/_, _≤_, zero-le}
 use native.Mathlib.Omega.{arith}
 use mathlib.Core.Path.{_≡_, refl}
 use mathlib.Core.Logic.{⊎-elim}
@@ -42,6 +42,7 @@ returns c =
       λ asc u o ho hf. absurd (⊎-elim (λ w. omega (arith, w .taken)) (λ w. omega (arith, ltb-true (length (a .full .now)) (length (a .batch .now) / 3) (w .1 .taken))) (c .if1 .came)),
       λ h. record { count = refl; cells = refl; numbers = refl },
       λ h. record { count = refl; cells = refl; numbers = refl },
+      zero-le,
     )
 
 loop-holds : tie.Need-loop-holds Inv-loop μ-loop
@@ -109,6 +110,7 @@ returns-2 c =
       λ asc u o ho hf. listing-end (l .loop .inv) (c .loop-test .left) asc (batch-ascends (entries b) u o),
       λ h. absurd (omega (arith, r .before .if1 .left)),
       λ h. absurd (omega (arith, room r)),
+      omega (arith, l .loop .inv .few, l .loop .inv .inside),
     )
 
 pub confirm-spec : {M : Type 1} → statement M

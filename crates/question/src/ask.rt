@@ -1,0 +1,78 @@
+// The question as it is put to a floor.
+use crate::judge::bad_question;
+use crate::search::Question;
+use crate::search::Spot;
+use crate::search::search;
+use grid::cell::Cell;
+use grid::floor::Floor;
+use grid::judge::bad_size;
+ghost use mathlib.Core.Path.{_≡_};
+ghost use Rattle.question.specs.Ask.{Asked, cellAt, nowhere, placed, refuseAsk};
+ghost use Rattle.question.specs.Question.{asked};
+ghost use Rattle.question.specs.Walk.{spotted};
+
+// `Option<Cell>`.
+pub enum Place {
+    Nothing,
+    At(Cell),
+}
+
+// 0 and what was found, or the refusal's number and nothing.
+pub struct Answer {
+    pub refusal: u8,
+    pub cell: Place,
+}
+
+fn refused(number: u8) -> Answer
+    ensures { λ r. ⌜ r ≡ nowhere number ⌝ }
+{
+    Answer {
+        refusal: number,
+        cell: Place::Nothing,
+    }
+}
+
+fn place_of(spot: Spot) -> Place
+    ensures { λ r. ⌜ placed r ≡ cellAt (spotted spot) ⌝ }
+{
+    match spot {
+        Spot::Nothing => Place::Nothing,
+        Spot::At(k) => Place::At(Cell::of_key(k)),
+    }
+}
+
+// Which refusal is due: 9, by the lent places; 1; 6, of the floor handed in; 8.
+fn judge(room: usize, size: f64, cells: usize, question: Question) -> u8
+    ensures { λ r. ⌜ r ≡ refuseAsk room size cells (asked question) ⌝ }
+{
+    if room < 1024 {
+        return 9;
+    }
+    if bad_size(size) {
+        return 1;
+    }
+    if 1024 < cells {
+        return 6;
+    }
+    if bad_question(question) {
+        return 8;
+    }
+    0
+}
+
+// The first occupied cell of the floor, by x, then y, that qualifies.
+pub fn ask(floor: Floor, cells: &[u64], question: Question) -> Answer
+    ensures { λ r. ⌜ Asked floor (now (cells .entry)) question r ⌝ }
+{
+    let n = floor.cells;
+    let number = judge(cells.len(), floor.size, n, question);
+    if number != 0 {
+        return refused(number);
+    }
+    let found = search(floor.size, &cells[..n], question);
+    let spot = found.cell;
+    Answer {
+        refusal: 0,
+        cell: place_of(spot),
+    }
+}
