@@ -16,10 +16,10 @@ use Rattle.model.specs.Maps.{Asc, AscL, has, keys}
 use Rattle.model.specs.Refusal.{outside, unsorted}
 use Rattle.model.proofs.BatchLaws.{cells-kept, cells-last, cells-order, confirmed-keys, confirmed-last, write-other, write-same}
 use Rattle.model.proofs.MapLaws.{beq-same, eqb-no, eqb-yes, true→T}
-use Rattle.model.proofs.OrderLaws.{asc-down}
+use Rattle.model.proofs.OrderLaws.{asc-keys, asc-down}
 use Rattle.model.proofs.RunLaws.{batch-ascends, batch-inside}
 use Rattle.table.specs.Tables.{All}
-use Rattle.grid.proofs.SetLaws.{all-has, has-all, has-low, keys-ascend, same-members}
+use Rattle.grid.proofs.SetLaws.{all-has, has-all, has-low, same-members}
 
 -- ---- the confirmed entries
 pub confirmed-ascends : (lo : ℕ) (b : Batch) (C : List ℕ) → Asc lo b → Asc lo (confirmed b C)
@@ -67,7 +67,7 @@ pub cells-turned : (lo : ℕ) (b : Batch) (C : List ℕ) → Asc lo b → (k : �
 unfolding cellsAfter confirmed keys has
 cells-turned lo [] C a k = unturned (has k C)
 cells-turned lo (e ∷ b) C a k =
-    cells-turned (suc (e .0)) b D (a .1) k ∙ go (Bool·beq (has (e .0) C) (e .1)) refl (ℕ-discrete k (e .0)) (keys-ascend (suc (e .0)) (confirmed b D) (confirmed-ascends (suc (e .0)) b D (a .1)))
+    cells-turned (suc (e .0)) b D (a .1) k ∙ go (Bool·beq (has (e .0) C) (e .1)) refl (ℕ-discrete k (e .0)) (asc-keys (suc (e .0)) (confirmed b D) (confirmed-ascends (suc (e .0)) b D (a .1)))
   where
     D : List ℕ
     D = write (e .0) (e .1) C
@@ -115,7 +115,7 @@ settled l C a u o =
     record {
       cells = confirmed-cells b C a;
       order = c;
-      keyOrder = keys-ascend 0 (confirmed b C) c;
+      keyOrder = asc-keys 0 (confirmed b C) c;
       fewer = confirmed-fewer b C;
       turned = cells-turned 0 b C s;
       inside = confirmed-inside l C o;

@@ -10,7 +10,7 @@ use mathlib.Core.List.{List, [], _∷_}
 use lib.Dec.{T, eqb, eqb→eq, eqb-refl}
 use lib.ListN.{length}
 use Rattle.ieee.proofs.Tools.{or-cases, lt-or-ge}
-use Rattle.model.specs.Maps.{Asc, AscL, add, cut, has, isSome, keys}
+use Rattle.model.specs.Maps.{AscL, add, cut, has, isSome, keys}
 use Rattle.model.proofs.MapLaws.{eqb-yes, eqb-no, or-left, or-right, keys-has, keys-units, units, has-add-same, has-add-other, has-cut-same, has-cut-other}
 use Rattle.model.proofs.OrderLaws.{asc-get, asc-units, ascL-add, ascL-cut}
 use Rattle.table.specs.Tables.{All}
@@ -27,11 +27,6 @@ pub all-has : (P : ℕ → Type 0) (l : List ℕ) → ((x : ℕ) → T (has x l)
 unfolding has
 all-has P [] f = tt
 all-has P (y ∷ l) f = (f y (or-left (eqb y y) (has y l) (eqb-refl y)), all-has P l (λ x t. f x (or-right (eqb x y) (has x l) t)))
-
-pub keys-ascend : {A : Type 0} (lo : ℕ) (m : List (ℕ × A)) → Asc lo m → AscL lo (keys m)
-unfolding keys
-keys-ascend lo [] a = tt
-keys-ascend lo (e ∷ m) a = (a .0, keys-ascend (suc (e .0)) m (a .1))
 
 -- no key is below the first
 pub has-low : (k lo : ℕ) (l : List ℕ) → k < lo → AscL lo l → has k l ≡ false

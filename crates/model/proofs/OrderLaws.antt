@@ -78,7 +78,7 @@ unfolding units
 asc-units lo [] a = tt
 asc-units lo (x ∷ l) a = (a .0, asc-units (suc x) l (a .1))
 
-asc-keys : {A : Type 0} (lo : ℕ) (m : List (ℕ × A)) → Asc lo m → AscL lo (keys m)
+pub asc-keys : {A : Type 0} (lo : ℕ) (m : List (ℕ × A)) → Asc lo m → AscL lo (keys m)
 unfolding keys
 asc-keys lo [] a = tt
 asc-keys lo (e ∷ m) a = (a .0, asc-keys (suc (e .0)) m (a .1))

@@ -7,11 +7,11 @@ use mathlib.Core.Option.{Option, none, some}
 use lib.Dec.{T, eqb}
 use lib.ListN.{length, replicate}
 use lib.IntN.{ℤ, pos, negsuc}
-use lib.Ieee.{Float, binary64, ofBits, fin}
+use lib.Ieee.{Float, binary64, div, ofBits, fin}
 use Rattle.ieee.specs.Constants.{nought, pow2}
-use Rattle.model.specs.Maps.{isSome, has}
+use Rattle.model.specs.Maps.{find, isSome, has}
 use Rattle.model.specs.Corner.{zero4}
-use Rattle.model.specs.Plane.{centre}
+use Rattle.model.specs.Plane.{Pt, centre}
 use Rattle.model.specs.Segment.{passesNear}
 use Rattle.model.specs.Shape.{Found, pointTest, circleTest, sweepTest}
 use Rattle.model.specs.Layer.{Point, Pair, link}
@@ -26,6 +26,10 @@ use Rattle.model.specs.Examples.{c, num, pt, at, fill, clear, after, pai
 -- the segment between two cells' centres, and a cell, of size s
 unfoldable pub near : Float → Float → ℕ → ℕ → ℕ → Bool
 near s r p q k = passesNear (record { p0 = centre s p; p1 = centre s q }) k s r
+
+-- what the sweep would be, were it the near test
+unfoldable pub nearTest : Float → List ℕ → Pt → Pt → Float → Found
+nearTest s C p q w = record { cell = find (λ k. passesNear (record { p0 = p; p1 = q }) k s (div binary64 w (pow2 1))) C }
 
 abbrev pub taken : Found → Bool
 taken f = isSome (f .cell)
@@ -42,6 +46,11 @@ borders =
       not (passesNear (record { p0 = pt (negsuc 63) (pos 36028797018963968); p1 = pt (pos 64) (pos 36028797018963968) }) (at (pos 0) (pos 0)) (bits 0x4006_6666_6666_6666) (pow2 55)),
     )
     ∷ ("a segment along a cell's diagonal does not pass near it, r = 0", not (near c nought (at (pos 1) (pos 1)) (at (pos 5) (pos 5)) (at (pos 3) (pos 3))))
+    ∷ (
+      "near test and sweep are two questions: of width 0 along a cell's diagonal only the sweep finds it",
+      taken (sweepTest c (at (pos 3) (pos 3) ∷ []) (centre c (at (pos 1) (pos 1))) (centre c (at (pos 5) (pos 5))) nought)
+          && not (taken (nearTest c (at (pos 3) (pos 3) ∷ []) (centre c (at (pos 1) (pos 1))) (centre c (at (pos 5) (pos 5))) nought)),
+    )
     ∷ (
       "a small circle inside an occupied cell, near its corner, is free; the point test finds the cell",
       not (taken (circleTest c (at (pos 0) (pos 0) ∷ []) (pt (pos 10) (pos 10)) (num (pos 5)))) && taken (pointTest c (at (pos 0) (pos 0) ∷ []) (pt (pos 10) (pos 10))),

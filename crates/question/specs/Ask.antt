@@ -10,7 +10,7 @@ use lib.ListN.{length}
 use lib.Ieee.{Float}
 use Rattle.model.specs.Cell.{xOf, yOf}
 use Rattle.model.specs.Limits.{maxCells}
-use Rattle.model.specs.Refusal.{Checks, verdict, short, badSize, badQuestion}
+use Rattle.model.specs.Refusal.{verdict, short, badSize, badQuestion}
 use Rattle.model.specs.Shape.{ask}
 use Rattle.model.specs.Shape as model
 use Rattle.grid.specs.Floor.{Holds}

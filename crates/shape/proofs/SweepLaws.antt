@@ -1,15 +1,14 @@
 -- The sweep test, column by column, is the model's: a cell is in the strip exactly when its column and its row are looked at. Assumes nothing.
 use Prim.Native.Nat.{ℕ, _+_, _-_, _^_, _≤_, _<_}
 use native.Mathlib.Omega.{arith}
-use mathlib.Core.Path.{_≡_, refl, sym, ap, _∙_}
-use mathlib.Core.Bool.{Bool, true, false, cond, _&&_, and-false}
+use mathlib.Core.Path.{_≡_, refl, ap, _∙_}
+use mathlib.Core.Bool.{Bool, true, false, cond, _&&_}
 use mathlib.Core.List.{List, [], _∷_, _++_, append-nil}
 use mathlib.Core.Option.{Option, none, some}
-use lib.Dec.{leb, ltb}
 use lib.IntN.{ℤ, pos, _+ℤ_}
 use lib.Ieee.{Float, binary64, mul, div, le, ofInt}
 use borrow.Author.Tests.{eq-eqb, ne-eqb, lt-ltb, le-ltb}
-use Rattle.ieee.specs.Whole.{floorZ, ceilZ, biased, unbias}
+use Rattle.ieee.specs.Whole.{unbias}
 use Rattle.ieee.proofs.MonotoneProduct.{mul-commutes}
 use Rattle.model.specs.Cell.{W, col, row}
 use Rattle.model.specs.Plane.{Pt}
