@@ -1,2 +1,10 @@
 -- The laws of crate `corner`.
+pub mod AddedLaws
+pub mod ChangeLaws
 pub mod CornersLaws
+pub mod MetLaws
+pub mod RowLaws
+pub mod SearchLaws
+pub mod StatusLaws
+pub mod WindowLaws
+pub mod WordLaws

@@ -1,2 +1,5 @@
-// Corners of occupied cells.
+// Corners of occupied cells: a cell's status, and the statuses that a batch altered.
+pub mod changes;
+mod places;
 pub mod status;
+mod window;

@@ -4,7 +4,7 @@ use mathlib.Core.Path.{_≡_, refl, sym, ap, _∙_, subst}
 use Prim.Native.Nat.{ℕ, suc, _+_, _-_, _*_, _^_, _≤_, _<_}
 use native.Mathlib.Nat.{lt-of-lt-of-le, mul-one, one-mul, mul-comm, mul-assoc, mul-right-comm, mul-pos, add-mul, mul-sub, eq-of-mul-eq-mul-right, zero-lt-suc}
 use native.Mathlib.Omega.{arith}
-use mathlib.Core.Bool.{Bool, true, false, not, _&&_, cond}
+use mathlib.Core.Bool.{Bool, true, false, not, _&&_, cond, false≢true}
 use lib.IntN.{ℤ, pos, negsuc}
 use lib.Dec.{ltb}
 use lib.Pow.{pow-add, pow-pos, pow-mono, shl-lt}
@@ -111,7 +111,7 @@ is-minus x a b j h = record { sign = not (h .sign); size = h .size; value = neg-
 
 -- ---- sums
 -- the two operands over one denominator: A * L = X * C and B * L = Y * C
-module _ (j X Y A B C : ℕ) (J : j ≤ 1074) (D : 0 < C) (small : X + Y < 2 ^ 53) (p : A * 2 ^ j ≡ X * C) (q : B * 2 ^ j ≡ Y * C) where
+module _ (j X Y A B C : ℕ) (J : j ≤ 1074) (D : 0 < C) (xs : X < 2 ^ 53) (ys : Y < 2 ^ 53) (p : A * 2 ^ j ≡ X * C) (q : B * 2 ^ j ≡ Y * C) where
   both : (A + B) * 2 ^ j ≡ (X + Y) * C
   both = add-mul A B (2 ^ j) ∙ ap (λ (n : ℕ). n + B * 2 ^ j) p ∙ ap (λ (n : ℕ). X * C + n) q ∙ sym (add-mul X Y C)
 
@@ -134,8 +134,8 @@ module _ (j X Y A B C : ℕ) (J : j ≤ 1074) (D : 0 < C) (small : X + Y < 2 ^ 5
   order' : ltb B A ≡ ltb Y X
   order' = sym (ltb-scale B A (2 ^ j) (pow-pos j)) ∙ ap (λ (n : ℕ). ltb n (A * 2 ^ j)) q ∙ ap (λ (n : ℕ). ltb (Y * C) n) p ∙ ltb-scale Y X C D
 
-  like : (s : Bool) → HasValue (round binary64 s (A + B) C) s (X + Y) (2 ^ j)
-  like s = round-dyadic s (A + B) C (X + Y) j D small J both
+  like : (s : Bool) → X + Y < 2 ^ 53 → HasValue (round binary64 s (A + B) C) s (X + Y) (2 ^ j)
+  like s small = round-dyadic s (A + B) C (X + Y) j D small J both
 
   under : (s : Bool) → HasValue (round binary64 s (B - A) C) s (Y - X) (2 ^ j)
   under s = round-dyadic s (B - A) C (Y - X) j D (omega arith) J less
@@ -143,16 +143,16 @@ module _ (j X Y A B C : ℕ) (J : j ≤ 1074) (D : 0 < C) (small : X + Y < 2 ^ 5
   over : (s : Bool) → HasValue (round binary64 s (A - B) C) s (X - Y) (2 ^ j)
   over s = round-dyadic s (A - B) C (X - Y) j D (omega arith) J more
 
-  sum-is : (s t : Bool) (a b c d : ℕ) → Off s X a b → Off t Y c d → Is (sum binary64 s A t B C) (a + c) (b + d) j
+  sum-is : (s t : Bool) (a b c d : ℕ) → (s ≡ t → X + Y < 2 ^ 53) → Off s X a b → Off t Y c d → Is (sum binary64 s A t B C) (a + c) (b + d) j
   unfolding sum
-  sum-is false false a b c d o u = record { sign = false; size = X + Y; value = like false; off = omega arith }
-  sum-is true true a b c d o u = record { sign = true; size = X + Y; value = like true; off = omega arith }
-  sum-is false true a b c d o u = go (ltb A B) (ltb-true X Y) (ltb-false X Y) order
+  sum-is false false a b c d small o u = record { sign = false; size = X + Y; value = like false (small refl); off = omega arith }
+  sum-is true true a b c d small o u = record { sign = true; size = X + Y; value = like true (small refl); off = omega arith }
+  sum-is false true a b c d small o u = go (ltb A B) (ltb-true X Y) (ltb-false X Y) order
     where
       go : (l : Bool) → (ltb X Y ≡ true → X < Y) → (ltb X Y ≡ false → Y ≤ X) → l ≡ ltb X Y → Is (cond l (round binary64 true (B - A) C) (round binary64 (false && ltb B A) (A - B) C)) (a + c) (b + d) j
       go true f g e = let h = f (sym e) in record { sign = true; size = Y - X; value = under true; off = omega arith }
       go false f g e = let h = g (sym e) in record { sign = false; size = X - Y; value = over false; off = omega arith }
-  sum-is true false a b c d o u = go (ltb A B) (ltb B A) (ltb-true X Y) (ltb-false X Y) (ltb-false Y X) order order'
+  sum-is true false a b c d small o u = go (ltb A B) (ltb B A) (ltb-true X Y) (ltb-false X Y) (ltb-false Y X) order order'
     where
       go : (l n : Bool) → (ltb X Y ≡ true → X < Y) → (ltb X Y ≡ false → Y ≤ X) → (ltb Y X ≡ false → X ≤ Y) → l ≡ ltb X Y → n ≡ ltb Y X → Is (cond l (round binary64 false (B - A) C) (round binary64 (true && n) (A - B) C)) (a + c) (b + d) j
       go true n f g k e i = let h = f (sym e) in record { sign = false; size = Y - X; value = under false; off = omega arith }
@@ -163,28 +163,41 @@ module _ (j X Y A B C : ℕ) (J : j ≤ 1074) (D : 0 < C) (small : X + Y < 2 ^ 5
 crossed : (m : ℕ) (e d : ℤ) (L X : ℕ) → m * up e * L ≡ X * down e → m * up e * down d * L ≡ X * (down e * down d)
 crossed m e d L X h = mul-right-comm (m * up e) (down d) L ∙ ap (λ (n : ℕ). n * down d) h ∙ mul-assoc X (down e) (down d)
 
-pub is-add : (x y : Float) (a b c d j : ℕ) → j ≤ 1074 → a < 2 ^ 52 → b < 2 ^ 52 → c < 2 ^ 52 → d < 2 ^ 52 → Is x a b j → Is y c d j → Is (add binary64 x y) (a + c) (b + d) j
+-- of two numbers below 2 ^ 53 in size; where the signs agree, their sum is as well
+pub is-sum : (x y : Float) (a b c d j : ℕ) → j ≤ 1074 → (h : Is x a b j) (k : Is y c d j) → h .size < 2 ^ 53 → k .size < 2 ^ 53 → (h .sign ≡ k .sign → h .size + k .size < 2 ^ 53) → Is (add binary64 x y) (a + c) (b + d) j
 unfolding add
-is-add nan y a b c d j J p q r s h k = absurd (h .value)
-is-add (inf s') y a b c d j J p q r s h k = absurd (h .value)
-is-add (fin s' m e) nan a b c d j J p q r s h k = absurd (k .value)
-is-add (fin s' m e) (inf t') a b c d j J p q r s h k = absurd (k .value)
-is-add (fin s' m e) (fin t' n g) a b c d j J p q r s h k =
+is-sum nan y a b c d j J h k p q small = absurd (h .value)
+is-sum (inf s') y a b c d j J h k p q small = absurd (h .value)
+is-sum (fin s' m e) nan a b c d j J h k p q small = absurd (k .value)
+is-sum (fin s' m e) (inf t') a b c d j J h k p q small = absurd (k .value)
+is-sum (fin s' m e) (fin t' n g) a b c d j J h k p q small =
     let X = h .size in
     let Y = k .size in
-    let sx = off-lt (h .sign) X a b (2 ^ 52) (h .off) p q in
-    let sy = off-lt (k .sign) Y c d (2 ^ 52) (k .off) r s in
-    sum-is j X Y (m * up e * down g) (n * up g * down e) (down e * down g) J (mul-pos (down-pos e) (down-pos g)) (two X Y sx sy)
+    sum-is j X Y (m * up e * down g) (n * up g * down e) (down e * down g) J (mul-pos (down-pos e) (down-pos g)) p q
     (crossed m e g (2 ^ j) X (h .value .1))
     (crossed n g e (2 ^ j) Y (k .value .1) ∙ ap (λ (z : ℕ). Y * z) (mul-comm (down g) (down e)))
-    s' t' a b c d (subst (λ (z : Bool). Off z X a b) (sym (h .value .0)) (h .off)) (subst (λ (z : Bool). Off z Y c d) (sym (k .value .0)) (k .off))
-  where
-    two : (X Y : ℕ) → X < 2 ^ 52 → Y < 2 ^ 52 → X + Y < 2 ^ 53
-    two X Y a b = omega arith
+    s' t' a b c d (λ i. small (sym (h .value .0) ∙ i ∙ k .value .0))
+    (subst (λ (z : Bool). Off z X a b) (sym (h .value .0)) (h .off)) (subst (λ (z : Bool). Off z Y c d) (sym (k .value .0)) (k .off))
+
+pub is-add : (x y : Float) (a b c d j : ℕ) → j ≤ 1074 → a < 2 ^ 52 → b < 2 ^ 52 → c < 2 ^ 52 → d < 2 ^ 52 → Is x a b j → Is y c d j → Is (add binary64 x y) (a + c) (b + d) j
+is-add x y a b c d j J p q r s h k =
+    let sx : h .size < 2 ^ 52 = off-lt (h .sign) (h .size) a b (2 ^ 52) (h .off) p q in
+    let sy : k .size < 2 ^ 52 = off-lt (k .sign) (k .size) c d (2 ^ 52) (k .off) r s in
+    is-sum x y a b c d j J h k (omega arith) (omega arith) (λ i. omega arith)
 
 pub is-sub : (x y : Float) (a b c d j : ℕ) → j ≤ 1074 → a < 2 ^ 52 → b < 2 ^ 52 → c < 2 ^ 52 → d < 2 ^ 52 → Is x a b j → Is y c d j → Is (sub binary64 x y) (a + d) (b + c) j
 unfolding sub
 is-sub x y a b c d j J p q r s h k = is-add x (neg y) a b d c j J p q s r h (is-minus y c d j k)
+
+-- two numbers below 2 ^ 53, neither of them negative
+pub is-less : (x y : Float) (a b j : ℕ) → j ≤ 1074 → a < 2 ^ 53 → b < 2 ^ 53 → HasValue x false a (2 ^ j) → HasValue y false b (2 ^ j) → Is (sub binary64 x y) a b j
+unfolding sub
+is-less x y a b j J p q v w =
+    is-shift (add binary64 x (neg y)) (a + 0) (0 + b) a b j (omega arith)
+    (is-sum x (neg y) a 0 0 b j J
+    (record { sign = false; size = a; value = v; off = omega arith })
+    (record { sign = true; size = b; value = neg-value y false b (2 ^ j) w; off = omega arith })
+    p q (λ e. absurd (false≢true e)))
 
 -- ---- products and quotients with c = 2 ^ k
 unlike-false : (s : Bool) → unlike false s ≡ s

@@ -1,5 +1,6 @@
 -- Laws on plain numbers, Bools and floats that the proofs share.
 pub mod Bias
+pub mod Columns
 pub mod Compare
 pub mod Cut
 pub mod Determinate
@@ -23,10 +24,12 @@ pub mod RootLoop
 pub mod RootNearest
 pub mod RootOrder
 pub mod RootScaled
+pub mod Shifter
 pub mod Signs
 pub mod Squares
 pub mod Thresholds
 pub mod Tools
+pub mod WholeOrder
 pub mod YardCells
 pub mod YardLaws
 pub mod YardTests

@@ -12,7 +12,7 @@ use lib.Ieee.Bits.{is-true}
 use lib.Ieee.Fits.{down-pos, round-is}
 use lib.Ieee.Order.{kept, drop, round-mono}
 use lib.Ieee.Scale.{finite}
-use borrow.Author.Tests.{le-ltb, le-leb, leb-true, not-true}
+use borrow.Author.Tests.{le-ltb, le-leb, leb-true, not-true, not-false}
 use Rattle.ieee.specs.Constants.{nought}
 use Rattle.ieee.specs.Pick.{absF}
 use Rattle.ieee.proofs.Tools.{leb-not, not-both, lt-some-right}
@@ -43,11 +43,11 @@ loss-not : (s : Bool) (a : ℕ) → loss (not s) a ≡ gain s a
 loss-not false a = refl
 loss-not true a = refl
 
-gain-scale : (s : Bool) (a k : ℕ) → gain s (a * k) ≡ gain s a * k
+pub gain-scale : (s : Bool) (a k : ℕ) → gain s (a * k) ≡ gain s a * k
 gain-scale false a k = refl
 gain-scale true a k = sym (zero-mul k)
 
-loss-scale : (s : Bool) (a k : ℕ) → loss s (a * k) ≡ loss s a * k
+pub loss-scale : (s : Bool) (a k : ℕ) → loss s (a * k) ≡ loss s a * k
 loss-scale false a k = sym (zero-mul k)
 loss-scale true a k = refl
 
@@ -75,7 +75,7 @@ below-parts false a c true b d = sym (le-ltb (a * d + b * c) (0 * c + 0 * d) (om
 below-parts true a c false b d = rw (zero-mul d, zero-mul c, add-comm (a * d) (b * c))
 below-parts true a c true b d = simp (zero-mul, zero-add)
 
-le-fin : (s : Bool) (m : ℕ) (e : ℤ) (t : Bool) (n : ℕ) (d : ℤ) → le (fin s m e) (fin t n d) ≡ leb (side s (m * up e) (down e) t (n * up d) (down d)) (side t (n * up d) (down d) s (m * up e) (down e))
+pub le-fin : (s : Bool) (m : ℕ) (e : ℤ) (t : Bool) (n : ℕ) (d : ℤ) → le (fin s m e) (fin t n d) ≡ leb (side s (m * up e) (down e) t (n * up d) (down d)) (side t (n * up d) (down d) s (m * up e) (down e))
 unfolding lt isNan
 le-fin s m e t n d =
     le-not (fin s m e) (fin t n d) refl refl
@@ -150,6 +150,9 @@ le-lt x y h = not-true (lt y x) (sym (le-not x y (le-some-left x y h) (le-some-r
 
 pub not-lt-le : (x y : Float) → isNan x ≡ false → isNan y ≡ false → lt x y ≡ false → le y x ≡ true
 not-lt-le x y p q h = le-not y x q p ∙ ap not h
+
+pub not-le-lt : (x y : Float) → isNan x ≡ false → isNan y ≡ false → le x y ≡ false → lt y x ≡ true
+not-le-lt x y p q h = not-false (lt y x) (sym (le-not x y p q) ∙ h)
 
 pub not-below-le : (x : Float) → isNan x ≡ false → lt x nought ≡ false → le nought x ≡ true
 unfolding isNan

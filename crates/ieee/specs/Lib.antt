@@ -6,4 +6,5 @@ pub mod RootSteps
 pub mod Threshold
 pub mod ThresholdSteps
 pub mod Whole
+pub mod WholeSteps
 pub mod Yard

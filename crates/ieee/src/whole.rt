@@ -2,6 +2,7 @@
 ghost use mathlib.Core.Path.{_≡_};
 ghost use lib.Ieee.{toSigned};
 ghost use Rattle.ieee.specs.Whole.{floorZ, ceilZ, biased};
+ghost use Rattle.ieee.specs.WholeSteps.{beyond};
 
 // Rust's `x as i64`: toward zero, to the nearer end of the range where it is out of it, 0 for a NaN.
 pub fn cut_to_i64(x: f64) -> i64
@@ -58,16 +59,46 @@ pub fn bias(n: i64) -> u64
     (n + 2147483648) as u64
 }
 
+// 1.5 * 2^52: where it is added to a number below 2^51 in size, that number is rounded to a whole one,
+// which stands in the low bits of the sum.
+const SHIFTER: f64 = 6755399441055744.0;
+
+// The sum's bits at the first column, -2^31.
+const FIRST: u64 = 4843621397089484800;
+
+// The column of a number beyond all columns, or of no number.
+fn column_beyond(x: f64) -> u64
+    ensures { λ r. ⌜ r ≡ beyond x ⌝ }
+{
+    if x < 0.0 {
+        return 0;
+    }
+    if x != x {
+        return 2147483648;
+    }
+    4294967295
+}
+
 // The column of a coordinate: its floor, as the tables hold it.
 pub fn column_of(x: f64) -> u64
     ensures { λ r. ⌜ r ≡ biased (floorZ x) ⌝ }
 {
-    bias(floor_to_i64(x))
+    if -2147483648.0 <= x && x <= 2147483647.0 {
+        let near = x + SHIFTER;
+        let n = f64::to_bits(near) - FIRST;
+        return n - (x < near - SHIFTER) as u64;
+    }
+    column_beyond(x)
 }
 
 // The column where a stretch that ends at x ends, itself not counted: its ceiling, as the tables hold it.
 pub fn column_up(x: f64) -> u64
     ensures { λ r. ⌜ r ≡ biased (ceilZ x) ⌝ }
 {
-    bias(ceil_to_i64(x))
+    if -2147483648.0 <= x && x <= 2147483647.0 {
+        let near = x + SHIFTER;
+        let n = f64::to_bits(near) - FIRST;
+        return n + (near - SHIFTER < x) as u64;
+    }
+    column_beyond(x)
 }

@@ -39,7 +39,7 @@ pub(crate) fn place_near(t: &[u64], k: u64) -> usize
 }
 
 // Whether k is the key at a place.
-pub(crate) fn stands_at(t: &[u64], at: usize, k: u64) -> bool
+pub fn stands_at(t: &[u64], at: usize, k: u64) -> bool
     ensures { λ r. ⌜ r ≡ stands k at (now (t .entry)) ⌝ }
 {
     if at < t.len() { k == t[at] } else { false }

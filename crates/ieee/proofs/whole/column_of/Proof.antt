@@ -1,24 +1,34 @@
--- `ieee::whole::column_of` meets its contract. Assumes nothing.
-use mir.Syntax.{w64}
-use mir.Val.{SFits}
-use mir.ValLaws.{toZ-ofZ}
-use mathlib.Core.Path.{_∙_, ap}
-use Rattle.ieee.specs.Whole.{biased}
+-- `ieee::whole::column_of` meets its contract. The laws are in `proofs/Columns.antt`. Assumes nothing.
+use mathlib.Core.Path.{_∙_}
+use mathlib.Core.Logic.{inl, inr, ⊎-elim}
+use mathlib.Core.Bool.{true}
+use native.Mathlib.Omega.{arith}
 use borrow.Author.Needs.{needs}
+use Rattle.ieee.proofs.Tools.{not-nan}
+use Rattle.ieee.proofs.Columns.{near-some, bits-least, floor-column, beyond-column}
 use Rattle.ieee.proofs.whole.column_of.Statement.{statement}
 use Rattle.ieee.proofs.whole.column_of.Tie as tie
 
-floor-to-i64-requires : tie.Need-floor-to-i64-requires
-floor-to-i64-requires c κs = search needs
+float-to-bits-n : tie.Need-float-to-bits-n
+float-to-bits-n c = not-nan _ (near-some (c .before .before .args .x) (c .before .if1 .taken) (c .if2 .taken))
 
-bias-requires : tie.Need-bias-requires
-bias-requires c κs = search needs
+sub-n : tie.Need-sub-n
+sub-n c = bits-least (c .before .before .args .x) (c .before .if1 .taken) (c .if2 .taken)
+
+cast-result : tie.Need-cast-result
+cast-result c = search needs
+
+sub-result : tie.Need-sub-result
+sub-result c = let e = floor-column (c .before .before .args .x) (c .before .if1 .taken) (c .if2 .taken) in omega arith
 
 returns : tie.Need-returns
-returns c =
-    let z = c .before .floor-to-i64 .result in
-    let h : SFits w64 z = search needs in
-    c .bias .ensures ∙ ap biased (toZ-ofZ w64 z h ∙ c .before .floor-to-i64 .ensures)
+returns c = let e = floor-column (c .before .before .args .x) (c .before .if1 .taken) (c .if2 .taken) in omega arith
+
+column-beyond-requires : tie.Need-column-beyond-requires
+column-beyond-requires c κs = search needs
+
+returns-2 : tie.Need-returns-2
+returns-2 c = c .column-beyond .ensures ∙ beyond-column true (c .before .before .args .x) (⊎-elim (λ w. inr (w .1 .left)) (λ w. inl (w .left)) (c .before .if1 .came))
 
 pub column-of-spec : {M : Type 1} → statement M
-column-of-spec = tie.close (tie.spec floor-to-i64-requires bias-requires returns)
+column-of-spec = tie.close (tie.spec float-to-bits-n sub-n cast-result sub-result returns column-beyond-requires returns-2)

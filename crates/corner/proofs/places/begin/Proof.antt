@@ -1,0 +1,29 @@
+-- `places::begin` is the definition's two cases. Assumes nothing.
+use borrow.Author.Needs.{needs}
+use borrow.Author.Tests.{lt-ltb, le-ltb}
+use Rattle.corner.specs.Search.{begun}
+use Rattle.corner.proofs.places.begin.Statement.{statement}
+use Rattle.corner.proofs.places.begin.Tie as tie
+
+sub-seen : tie.Need-sub-seen
+sub-seen c = search needs
+
+mul-seen : tie.Need-mul-seen
+mul-seen c = search needs
+
+shared-slice-read-seen : tie.Need-shared-slice-read-seen
+shared-slice-read-seen c = search needs
+
+sub-result : tie.Need-sub-result
+sub-result c = search needs
+
+returns : tie.Need-returns
+unfolding begun
+returns c = simp (lt-ltb _ _ (c .if1 .taken))
+
+returns-2 : tie.Need-returns-2
+unfolding begun
+returns-2 c = simp (le-ltb _ _ (c .if1 .left))
+
+pub begin-spec : {M : Type 1} → statement M
+begin-spec = tie.close (tie.spec sub-seen mul-seen shared-slice-read-seen sub-result returns returns-2)

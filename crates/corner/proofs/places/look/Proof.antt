@@ -1,0 +1,59 @@
+-- `places::look` is the definition's step, the test taken as a number. Assumes nothing.
+use Prim.Native.Nat.{_^_}
+use native.Mathlib.Omega.{arith}
+use mathlib.Core.Path.{_≡_}
+use borrow.Author.Needs.{needs}
+use lib.Pow.{pow-pos}
+use Rattle.corner.proofs.SearchLaws.{look-is, looked-le}
+use Rattle.corner.proofs.places.look.Statement.{statement}
+use Rattle.corner.proofs.places.look.Tie as tie
+
+power-requires : tie.Need-power-requires
+power-requires c κs = search needs
+
+add-last : tie.Need-add-last
+add-last c = search needs
+
+sub-last : tie.Need-sub-last
+sub-last c =
+    let e : c .power .result ≡ 2 ^ c .before .before .args .s = c .power .ensures in
+    omega (arith, pow-pos (c .before .before .args .s))
+
+mul-seen : tie.Need-mul-seen
+mul-seen c = search needs
+
+shared-slice-read-seen : tie.Need-shared-slice-read-seen
+shared-slice-read-seen c =
+    let a = c .before .before .before .args in
+    let e : c .before .power .result ≡ 2 ^ a .s = c .before .power .ensures in
+    omega (arith, pow-pos (a .s), c .before .before .before .pre .1)
+
+cast-less : tie.Need-cast-less
+cast-less c = search needs
+
+shl-result : tie.Need-shl-result
+shl-result c = search needs
+
+add-result : tie.Need-add-result
+add-result c =
+    let a = c .before .before .before .args in
+    rw (look-is (a .t .now) (a .at) (a .s) (a .k) (c .before .power .result) (c .before .before .before .pre .0) (c .before .power .ensures)) (omega (arith, looked-le (a .t .now) (a .at) (2 ^ a .s) (a .k), c .before .before .before .pre .1))
+
+returns : tie.Need-returns
+returns c =
+    let a = c .before .before .before .args in
+    look-is (a .t .now) (a .at) (a .s) (a .k) (c .before .power .result) (c .before .before .before .pre .0) (c .before .power .ensures)
+
+pub look-spec : {M : Type 1} → statement M
+look-spec =
+    tie.close
+    (tie.spec
+    power-requires
+    add-last
+    sub-last
+    mul-seen
+    shared-slice-read-seen
+    cast-less
+    shl-result
+    add-result
+    returns)

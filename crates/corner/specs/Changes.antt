@@ -1,0 +1,21 @@
+-- What a batch does to the cells around it, as the corner changes need it. Definitions only.
+use Prim.Native.Nat.{ℕ, _+_, _*_, _^_, _≤_, _<_}
+use mathlib.Core.Path.{_≡_}
+use mathlib.Core.Bool.{not, Bool·beq}
+use mathlib.Core.List.{List, [], _∷_}
+use Rattle.model.specs.Cell.{W}
+use Rattle.model.specs.Corner.{Bits, number}
+use Rattle.model.specs.Maps.{has}
+
+-- C′ is C with the cells of K turned over
+abbrev pub Turned : List ℕ → List ℕ → List ℕ → Type 0
+Turned C K C′ = (k : ℕ) → has k C′ ≡ not (Bool·beq (has k C) (has k K))
+
+-- two cells further in every direction are keys too
+abbrev pub Inner : ℕ → Type 0
+Inner k = (2 * W + 2 ≤ k) × (k + (2 * W + 2) < 2 ^ 64)
+
+-- statuses by the paper's numbers
+abbrev pub numbered : List (ℕ × Bits) → List (ℕ × ℕ)
+numbered [] = []
+numbered (e ∷ l) = (e .0, number (e .1)) ∷ numbered l
