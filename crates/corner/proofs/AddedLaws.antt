@@ -1,5 +1,5 @@
 -- Lists added to two tables one after another. Assumes nothing.
-use Prim.Native.Nat.{ℕ, suc, _+_, _/_, _%_, _^_, _≤_, _<_}
+use Prim.Native.Nat.{ℕ, _+_, _/_, _%_, _^_, _≤_, _<_}
 use native.Mathlib.Numerals.{add-one}
 use native.Mathlib.Omega.{arith}
 use mathlib.Core.Path.{_≡_, refl, sym, ap, _∙_}
@@ -9,20 +9,12 @@ use lib.Seq.{length-take-le, take-at, drop-drop, drop-at, set-split}
 use borrow.Author.Tests.{ne-eqb}
 use Rattle.model.specs.Maps.{keys}
 use Rattle.table.specs.Listed.{Listed, values}
+use Rattle.table.proofs.ListedLaws.{keys-length, values-length}
 use Rattle.corner.specs.Turns.{Added}
 use Rattle.corner.specs.Window.{gathered, innerBit, innerCell, pickedAt, statusAt}
 use Rattle.corner.proofs.WordLaws.{on-read}
 
 -- ---- the two columns of a list
-keys-length : (l : List (ℕ × ℕ)) → length (keys l) ≡ length l
-unfolding keys
-keys-length [] = refl
-keys-length (x ∷ l) = ap suc (keys-length l)
-
-values-length : (l : List (ℕ × ℕ)) → length (values l) ≡ length l
-values-length [] = refl
-values-length (x ∷ l) = ap suc (values-length l)
-
 keys-append : (l m : List (ℕ × ℕ)) → keys (l ++ m) ≡ keys l ++ keys m
 unfolding keys
 keys-append [] m = refl

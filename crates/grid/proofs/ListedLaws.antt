@@ -11,6 +11,7 @@ use Rattle.lists.proofs.Front.{mix, mix-more, mix-done}
 use Rattle.model.specs.Batch.{Batch}
 use Rattle.model.specs.Maps.{keys}
 use Rattle.table.specs.Listed.{Listed, values}
+use Rattle.table.proofs.ListedLaws.{keys-length, values-length}
 use Rattle.grid.specs.Batches.{flags}
 
 -- n of w are written, and r is left
@@ -19,15 +20,6 @@ pub record Part (w r : List (ℕ × ℕ)) (a b : List ℕ) (n : ℕ) (a′ b′ 
   pub left : drop n w ≡ r
   pub cells : a′ ≡ mix (keys w) a n
   pub numbers : b′ ≡ mix (values w) b n
-
-pub keys-length : {A : Type 0} (w : List (ℕ × A)) → length (keys w) ≡ length w
-unfolding keys
-keys-length [] = refl
-keys-length (e ∷ w) = ap suc (keys-length w)
-
-values-length : (w : List (ℕ × ℕ)) → length (values w) ≡ length w
-values-length [] = refl
-values-length (e ∷ w) = ap suc (values-length w)
 
 pub keys-at : {A : Type 0} (w : List (ℕ × A)) (n : ℕ) (z : A) → getD (keys w) n 0 ≡ getD w n (0, z) .0
 unfolding keys

@@ -17,7 +17,8 @@ use Rattle.table.specs.Listed.{values}
 use Rattle.table.specs.Tables.{Changed, Table, added, pad}
 use Rattle.table.proofs.TableLaws.{changed-keys, insert-table, remove-table, table-pad}
 use Rattle.grid.specs.Batches.{Written, flags, writes}
-use Rattle.grid.proofs.ListedLaws.{flags-at, flags-length, keys-at, keys-length}
+use Rattle.table.proofs.ListedLaws.{keys-length}
+use Rattle.grid.proofs.ListedLaws.{flags-at, flags-length, keys-at}
 use Rattle.grid.proofs.SetLaws.{add-grows, cut-add}
 
 -- ---- an ascending batch is what its entries free, and then what they fill

@@ -1,6 +1,7 @@
 -- The laws of crate `table`.
 pub mod AllLaws
 pub mod ColumnLaws
+pub mod ListedLaws
 pub mod LookLaws
 pub mod RankLaws
 pub mod ShiftLaws

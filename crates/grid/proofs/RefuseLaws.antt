@@ -1,0 +1,135 @@
+-- A batch's refusals in their order. Assumes nothing.
+use Prim.Native.Nat.{ℕ, suc, _≤_, _<_}
+use native.Mathlib.Omega.{arith}
+use mathlib.Core.Path.{_≡_, refl, sym, ap, _∙_}
+use mathlib.Core.Bool.{Bool, true, false, cond, _||_, or-false, true≢false}
+use mathlib.Core.List.{List}
+use lib.Dec.{ltb}
+use lib.ListN.{length}
+use lib.Ieee.{Float}
+use borrow.Author.Tests.{lt-ltb, le-ltb, ltb-false}
+use Rattle.model.specs.Map.{Entry}
+use Rattle.model.specs.Refusal.{firstOf, verdict, short, badSize, unsorted, outside}
+use Rattle.grid.specs.Batches.{refuseBatch}
+use Rattle.grid.specs.Change.{refuseChange, shortOf}
+
+pub apart : {k : ℕ} → suc k ≡ 0 → ⊥
+apart e = omega arith
+
+-- ---- 9: the first table that is short
+module _ (a b c d e : ℕ) where
+  pub short-cells : a < 1024 → true ≡ shortOf a b c d e
+  unfolding shortOf short
+  short-cells h = rw (lt-ltb a 1024 h) refl
+
+  module _ (ha : 1024 ≤ a) where
+    pub short-confirmed : b < 256 → true ≡ shortOf a b c d e
+    unfolding shortOf short
+    short-confirmed h = rw (le-ltb a 1024 ha, lt-ltb b 256 h) refl
+
+    module _ (hb : 256 ≤ b) where
+      pub short-full : c < 256 → true ≡ shortOf a b c d e
+      unfolding shortOf short
+      short-full h = rw (le-ltb a 1024 ha, le-ltb b 256 hb, lt-ltb c 256 h) refl
+
+      module _ (hc : 256 ≤ c) where
+        pub short-corners : d < 2304 → true ≡ shortOf a b c d e
+        unfolding shortOf short
+        short-corners h = rw (le-ltb a 1024 ha, le-ltb b 256 hb, le-ltb c 256 hc, lt-ltb d 2304 h) refl
+
+        pub short-statuses : 2304 ≤ d → ltb e 2304 ≡ shortOf a b c d e
+        unfolding shortOf short
+        short-statuses h = rw (le-ltb a 1024 ha, le-ltb b 256 hb, le-ltb c 256 hc, le-ltb d 2304 h) (sym (or-false (ltb e 2304)))
+
+  -- where none is short
+  pub long-enough : shortOf a b c d e ≡ false → (1024 ≤ a) × (256 ≤ b) × (256 ≤ c) × (2304 ≤ d) × (2304 ≤ e)
+  unfolding shortOf short
+  long-enough z = go (ltb a 1024) (ltb b 256) (ltb c 256) (ltb d 2304) (ltb e 2304) refl refl refl refl refl z
+    where
+      go : (u v w x y : Bool) → ltb a 1024 ≡ u → ltb b 256 ≡ v → ltb c 256 ≡ w → ltb d 2304 ≡ x → ltb e 2304 ≡ y → (u || (v || (w || (x || (y || false))))) ≡ false
+          → (1024 ≤ a) × (256 ≤ b) × (256 ≤ c) × (2304 ≤ d) × (2304 ≤ e)
+      go true v w x y p q r s t z = absurd (true≢false z)
+      go false true w x y p q r s t z = absurd (true≢false z)
+      go false false true x y p q r s t z = absurd (true≢false z)
+      go false false false true y p q r s t z = absurd (true≢false z)
+      go false false false false true p q r s t z = absurd (true≢false z)
+      go false false false false false p q r s t z = (ltb-false a 1024 p, ltb-false b 256 q, ltb-false c 256 r, ltb-false d 2304 s, ltb-false e 2304 t)
+
+-- ---- all of them, in turn
+abbrev batchThen : Bool → Bool → Bool → ℕ → ℕ
+batchThen long disorder outside n = cond long 3 (cond disorder 4 (cond outside 5 n))
+
+module _ (s : Bool) (c : Float) (l : List Entry) (w : Bool) where
+  abbrev rest : ℕ → ℕ
+  rest = batchThen (ltb 256 (length l)) (unsorted l) (outside l)
+
+  in-turn : refuseChange s c l w ≡ cond s 9 (cond (badSize c) 1 (rest (cond w 6 0)))
+  unfolding refuseChange verdict firstOf
+  in-turn = refl
+
+  batch-turn : refuseBatch l ≡ rest 0
+  unfolding refuseBatch firstOf
+  batch-turn = refl
+
+  pub change-short : s ≡ true → 9 ≡ refuseChange s c l w
+  change-short e = sym (in-turn ∙ ap (λ (b : Bool). cond b 9 (cond (badSize c) 1 (rest (cond w 6 0)))) e)
+
+  module _ (e : s ≡ false) where
+    pub change-size : badSize c ≡ true → 1 ≡ refuseChange s c l w
+    change-size f = sym (in-turn ∙ rw (e, f) refl)
+
+    module _ (f : badSize c ≡ false) where
+      known : refuseChange s c l w ≡ rest (cond w 6 0)
+      known = in-turn ∙ rw (e, f) refl
+
+      pub change-batch : (n : ℕ) → n ≡ refuseBatch l → (n ≡ 0 → ⊥) → n ≡ refuseChange s c l w
+      change-batch n g some = g ∙ batch-turn ∙ go (ltb 256 (length l)) (unsorted l) (outside l) (λ z. some (g ∙ batch-turn ∙ z)) ∙ sym known
+        where
+          go : (x y z : Bool) → (batchThen x y z 0 ≡ 0 → ⊥) → batchThen x y z 0 ≡ batchThen x y z (cond w 6 0)
+          go true y z h = refl
+          go false true z h = refl
+          go false false true h = refl
+          go false false false h = absurd (h refl)
+
+      -- 6 where there are too many cells, else 0
+      pub change-last : (n : ℕ) → n ≡ refuseBatch l → n ≡ 0 → cond w 6 0 ≡ refuseChange s c l w
+      change-last n g z = go (ltb 256 (length l)) (unsorted l) (outside l) (sym batch-turn ∙ sym g ∙ z) ∙ sym known
+        where
+          go : (x y v : Bool) → batchThen x y v 0 ≡ 0 → _≡_ {A = ℕ} (cond w 6 0) (batchThen x y v (cond w 6 0))
+          go true y v h = absurd (apart h)
+          go false true v h = absurd (apart h)
+          go false false true h = absurd (apart h)
+          go false false false h = refl
+
+-- what is not refused by the input alone: nothing is due but, with another number of cells, 6
+pub record Passed (s : Bool) (c : Float) (l : List Entry) (w : Bool) : Type 0 where
+  pub long : s ≡ false
+  pub few : length l ≤ 256
+  pub order : unsorted l ≡ false
+  pub bounds : outside l ≡ false
+  pub crowd : w ≡ false
+  pub later : (v : Bool) → refuseChange s c l v ≡ cond v 6 0
+
+pub change-passed : (s : Bool) (c : Float) (l : List Entry) (w : Bool) → refuseChange s c l w ≡ 0 → Passed s c l w
+change-passed s c l w z = go s (badSize c) (ltb 256 (length l)) (unsorted l) (outside l) w refl refl refl refl refl refl (sym (in-turn s c l w) ∙ z)
+  where
+    go : (a b x y v u : Bool) → s ≡ a → badSize c ≡ b → ltb 256 (length l) ≡ x → unsorted l ≡ y → outside l ≡ v → w ≡ u → _≡_ {A = ℕ} (cond a 9 (cond b 1 (batchThen x y v (cond u 6 0)))) 0 → Passed s c l w
+    go true b x y v u p q r o t i h = absurd (apart h)
+    go false true x y v u p q r o t i h = absurd (apart h)
+    go false false true y v u p q r o t i h = absurd (apart h)
+    go false false false true v u p q r o t i h = absurd (apart h)
+    go false false false false true u p q r o t i h = absurd (apart h)
+    go false false false false false true p q r o t i h = absurd (apart h)
+    go false false false false false false p q r o t i h = record { long = p; few = ltb-false 256 (length l) r; order = o; bounds = t; crowd = i; later = λ n. in-turn s c l n ∙ rw (p, q, r, o, t) refl }
+
+-- a refusal that is due before the cells are counted is due whatever they come to
+pub change-early : (s : Bool) (c : Float) (l : List Entry) (v : Bool) → (refuseChange s c l false ≡ 0 → ⊥) → refuseChange s c l v ≡ refuseChange s c l false
+change-early s c l v some = in-turn s c l v ∙ go s (badSize c) (ltb 256 (length l)) (unsorted l) (outside l) (λ z. some (in-turn s c l false ∙ z)) ∙ sym (in-turn s c l false)
+  where
+    go : (a b x y u : Bool) → (_≡_ {A = ℕ} (cond a 9 (cond b 1 (batchThen x y u 0))) 0 → ⊥) → _≡_ {A = ℕ} (cond a 9 (cond b 1 (batchThen x y u (cond v 6 0)))) (cond a 9 (cond b 1 (batchThen x y u 0)))
+    go true b x y u h = refl
+    go false true x y u h = refl
+    go false false true y u h = refl
+    go false false false true u h = refl
+    go false false false false true h = refl
+    go false false false false false h = absurd (h refl)

@@ -1,0 +1,143 @@
+-- `change::change_cells`: what the input alone refuses, then the cells' number, then the batch. Assumes nothing.
+use Prim.Native.Nat.{_≤_}
+use native.Mathlib.Omega.{arith}
+use mathlib.Core.Path.{_≡_, refl, sym, ap, _∙_}
+use mathlib.Core.Bool.{Bool}
+use lib.Dec.{ltb}
+use lib.ListN.{length}
+use lib.Seq.{length-take-le}
+use borrow.Author.Needs.{needs}
+use borrow.Author.Tests.{ltb-false}
+use Rattle.grid.specs.Batches.{entries}
+use Rattle.grid.specs.Change.{refuseChange, shortOf}
+use Rattle.grid.proofs.CallLaws.{accepted, early-refused, late-refused}
+use Rattle.grid.proofs.RefuseLaws.{Passed, change-passed, long-enough}
+use Rattle.grid.proofs.change.change_cells.Statement.{statement}
+use Rattle.grid.proofs.change.change_cells.Tie as tie
+
+-- the start, from where the lengths are judged on
+abbrev start : tie.After-is-short → tie.Start
+start p = p .before .before .before .before .before .before
+
+-- the refusal that is due by the input, with the lengths written out
+due : (j : tie.After-judge) →
+    let a = start (j .before) .args in
+    j .judge .result ≡ refuseChange (shortOf (length (a .cells .now)) (length (a .confirmed .now)) (length (a .full .now)) (length (a .corners .now)) (length (a .statuses .now))) (a .floor .size) (entries (a .batch .now)) (ltb 1024 (a .floor .cells))
+due j =
+    let a = start (j .before) .args in
+    j .judge .ensures ∙ ap (λ (s : Bool). refuseChange s (a .floor .size) (entries (a .batch .now)) (ltb 1024 (a .floor .cells))) (j .before .is-short .ensures)
+
+passed : (c : tie.Else1) →
+    let a = start (c .before .before) .args in
+    Passed (shortOf (length (a .cells .now)) (length (a .confirmed .now)) (length (a .full .now)) (length (a .corners .now)) (length (a .statuses .now))) (a .floor .size) (entries (a .batch .now)) (ltb 1024 (a .floor .cells))
+passed c =
+    let a = start (c .before .before) .args in
+    change-passed (shortOf (length (a .cells .now)) (length (a .confirmed .now)) (length (a .full .now)) (length (a .corners .now)) (length (a .statuses .now))) (a .floor .size) (entries (a .batch .now)) (ltb 1024 (a .floor .cells)) (sym (due (c .before)) ∙ c .if1 .left)
+
+long : (c : tie.Else1) →
+    let a = start (c .before .before) .args in
+    (1024 ≤ length (a .cells .now)) × (256 ≤ length (a .confirmed .now)) × (256 ≤ length (a .full .now)) × (2304 ≤ length (a .corners .now)) × (2304 ≤ length (a .statuses .now))
+long c =
+    let a = start (c .before .before) .args in
+    long-enough (length (a .cells .now)) (length (a .confirmed .now)) (length (a .full .now)) (length (a .corners .now)) (length (a .statuses .now)) (passed c .long)
+
+small : (c : tie.Else1) → start (c .before .before) .args .floor .cells ≤ 1024
+small c = ltb-false 1024 (start (c .before .before) .args .floor .cells) (passed c .crowd)
+
+is-short-requires : tie.Need-is-short-requires
+is-short-requires c κs = search needs
+
+judge-requires : tie.Need-judge-requires
+judge-requires c κs = search needs
+
+refused-requires : tie.Need-refused-requires
+refused-requires c κs = search needs
+
+returns : tie.Need-returns
+returns c =
+    let j = c .before .before in
+    let a = start (j .before) .args in
+    early-refused (a .floor) (a .batch .now) _ _ (c .refused .result) (j .judge .result) (c .before .if1 .taken) (due j) (c .refused .ensures) refl
+
+slice-reshare-prefix-count-after : tie.Need-slice-reshare-prefix-count-after
+slice-reshare-prefix-count-after c =
+    let l = long c in
+    let s = small c in
+    omega arith
+
+slice-aggregate-count-after : tie.Need-slice-aggregate-count-after
+slice-aggregate-count-after c =
+    let e = c .before in
+    let a = start (e .before .before) .args in
+    let l = long e in
+    let s = small e in
+    sym (length-take-le (a .floor .cells) (a .cells .now) (omega arith))
+
+count-after-requires : tie.Need-count-after-requires
+count-after-requires c κs = search needs
+
+refused-requires-2 : tie.Need-refused-requires-2
+refused-requires-2 c κs = search needs
+
+same-length : tie.Need-same-length
+same-length c = search needs
+
+returns-2 : tie.Need-returns-2
+returns-2 c =
+    let k = c .before .before in
+    let e = k .before .before in
+    let a = start (e .before .before) .args in
+    late-refused (a .floor) (a .batch .now) _ _ (c .refused2 .result) (sym (e .if1 .left) ∙ due (e .before)) (k .count-after .result) (k .count-after .ensures) (c .before .if2 .taken) (c .refused2 .ensures) refl
+
+apply-requires : tie.Need-apply-requires
+apply-requires c κs =
+    let e = c .before .before .before .before .before .before .before .before in
+    let l = long e in
+    let f = passed e .few in
+    (small e, l .0, omega (arith, f, l .1), omega (arith, f, l .2))
+
+same-length-2 : tie.Need-same-length-2
+same-length-2 c = search needs
+
+same-length-3 : tie.Need-same-length-3
+same-length-3 c = search needs
+
+same-length-4 : tie.Need-same-length-4
+same-length-4 c = search needs
+
+same-length-5 : tie.Need-same-length-5
+same-length-5 c = search needs
+
+same-length-6 : tie.Need-same-length-6
+same-length-6 c = search needs
+
+returns-3 : tie.Need-returns-3
+returns-3 c =
+    let y = c .before .before .before .before .before .before .before .before .before .before in
+    let g = y .before .before .before .before .before .before in
+    let k = g .before in
+    let e = k .before .before in
+    let a = start (e .before .before) .args in
+    accepted (a .floor) (a .batch .now) _ _ (y .apply .result) (sym (e .if1 .left) ∙ due (e .before)) (k .count-after .result) (k .count-after .ensures) (g .if2 .left) (y .apply .ensures .0) (y .apply .ensures .1)
+
+pub change-cells-spec : {M : Type 1} → statement M
+change-cells-spec =
+    tie.close
+    (tie.spec
+    is-short-requires
+    judge-requires
+    refused-requires
+    returns
+    slice-reshare-prefix-count-after
+    slice-aggregate-count-after
+    count-after-requires
+    refused-requires-2
+    same-length
+    returns-2
+    apply-requires
+    same-length-2
+    same-length-3
+    same-length-4
+    same-length-5
+    same-length-6
+    returns-3)

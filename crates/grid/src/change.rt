@@ -1,0 +1,146 @@
+// A batch on a floor, whole: judged first, then committed. A refusal alters nothing.
+use crate::batch::commit;
+use crate::batch::confirm;
+use crate::batch::count_after;
+use crate::floor::Floor;
+use crate::judge::bad_size;
+use crate::judge::refuse_batch;
+use corner::changes::corner_changes;
+ghost use mathlib.Core.List.{List};
+ghost use mathlib.Core.Path.{_≡_};
+ghost use Prim.Native.Nat.{ℕ, _≤_};
+ghost use lib.Dec.{ltb};
+ghost use lib.ListN.{length};
+ghost use Rattle.model.specs.Limits.{maxCells};
+ghost use Rattle.grid.specs.Batches.{entries};
+ghost use Rattle.grid.specs.Change.{Applying, Changing, Done, refuseChange, refusedWith, shortOf};
+
+// 0 with how many changes were confirmed, how many corners altered, and the floor afterwards; or the refusal's
+// number, and all else zero.
+pub struct Changed {
+    pub refusal: u8,
+    pub confirmed: usize,
+    pub corners: usize,
+    pub floor: Floor,
+}
+
+fn refused(number: u8) -> Changed
+    ensures { λ r. ⌜ r ≡ refusedWith number ⌝ }
+{
+    Changed {
+        refusal: number,
+        confirmed: 0,
+        corners: 0,
+        floor: Floor {
+            size: 0.0,
+            cells: 0,
+        },
+    }
+}
+
+// 9: whether a lent table is short of its need.
+fn is_short(cells: usize, confirmed: usize, full: usize, corners: usize, statuses: usize) -> bool
+    ensures { λ r. ⌜ r ≡ shortOf cells confirmed full corners statuses ⌝ }
+{
+    if cells < 1024 {
+        return true;
+    }
+    if confirmed < 256 {
+        return true;
+    }
+    if full < 256 {
+        return true;
+    }
+    if corners < 2304 {
+        return true;
+    }
+    statuses < 2304
+}
+
+// The refusals that the input alone decides: 9; 1; 3, 4 and 5; 6, of the floor handed in.
+fn judge(short: bool, size: f64, cells: usize, batch: &[i64]) -> u8
+    ensures { λ r. ⌜ r ≡ refuseChange short size (entries (now (batch .entry))) (ltb maxCells cells) ⌝ }
+{
+    if short {
+        return 9;
+    }
+    if bad_size(size) {
+        return 1;
+    }
+    let number = refuse_batch(batch);
+    if number != 0 {
+        return number;
+    }
+    if 1024 < cells {
+        return 6;
+    }
+    0
+}
+
+// The batch, once nothing refuses it.
+fn apply(
+    floor: Floor,
+    cells: &mut [u64],
+    batch: &[i64],
+    confirmed: &mut [u64],
+    full: &mut [u8],
+    corners: &mut [u64],
+    statuses: &mut [u8],
+) -> Changed
+    requires { ⌜ (floor .cells ≤ maxCells) × (maxCells ≤ length (now cells)) × (length (entries (now batch)) ≤ length (now confirmed)) × (length (entries (now batch)) ≤ length (now full)) ⌝ }
+    ensures { λ r. ⌜ (r .refusal ≡ 0) × ((C : List ℕ) → Applying (now (cells .entry)) (floor .cells) C (entries (now (batch .entry))) (length (now (corners .entry))) (length (now (statuses .entry))) → Done floor C (entries (now (batch .entry)))
+        (record { cells = now (cells .entry); confirmed = now (confirmed .entry); full = now (full .entry); corners = now (corners .entry); statuses = now (statuses .entry) })
+        (record { cells = now (cells .exit); confirmed = now (confirmed .exit); full = now (full .exit); corners = now (corners .exit); statuses = now (statuses .exit) }) r) ⌝ }
+{
+    let n = floor.cells;
+    let changes = confirm(&cells[..n], batch, confirmed, full);
+    let altered = corner_changes(&cells[..n], &confirmed[..changes], corners, statuses);
+    let after = commit(
+        &mut cells[..1024],
+        n,
+        &confirmed[..changes],
+        &full[..changes],
+    );
+    Changed {
+        refusal: 0,
+        confirmed: changes,
+        corners: altered,
+        floor: Floor {
+            size: floor.size,
+            cells: after,
+        },
+    }
+}
+
+// Changes the floor's cells as the batch says. `cells` holds the floor's cells; `confirmed` and `full` get the confirmed
+// changes, `corners` and `statuses` the corner changes.
+pub fn change_cells(
+    floor: Floor,
+    cells: &mut [u64],
+    batch: &[i64],
+    confirmed: &mut [u64],
+    full: &mut [u8],
+    corners: &mut [u64],
+    statuses: &mut [u8],
+) -> Changed
+    ensures { λ r. ⌜ Changing floor (now (batch .entry))
+        (record { cells = now (cells .entry); confirmed = now (confirmed .entry); full = now (full .entry); corners = now (corners .entry); statuses = now (statuses .entry) })
+        (record { cells = now (cells .exit); confirmed = now (confirmed .exit); full = now (full .exit); corners = now (corners .exit); statuses = now (statuses .exit) }) r ⌝ }
+{
+    let n = floor.cells;
+    let short = is_short(
+        cells.len(),
+        confirmed.len(),
+        full.len(),
+        corners.len(),
+        statuses.len(),
+    );
+    let number = judge(short, floor.size, n, batch);
+    if number != 0 {
+        return refused(number);
+    }
+    if 1024 < count_after(&cells[..n], batch) {
+        return refused(6);
+    }
+    apply(floor, cells, batch, confirmed, full, corners, statuses)
+}
