@@ -1,5 +1,6 @@
 -- The laws of crate `question`.
 pub mod AskLaws
+pub mod Determinate
 pub mod FindLaws
 pub mod NumberLaws
 pub mod TakenLaws

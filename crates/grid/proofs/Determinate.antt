@@ -1,0 +1,33 @@
+-- Any two outcomes that the contract of `change_cells` permits are equal, of every floor that holds its cells. Assumes nothing.
+use Prim.Native.Nat.{ℕ, zero, suc}
+use mathlib.Core.Path.{_≡_, refl, sym, _∙_}
+use mathlib.Core.List.{List, _++_}
+use lib.Dec.{ltb}
+use lib.IntN.{ℤ}
+use lib.ListN.{length}
+use Rattle.model.specs.Batch.{cellsAfter}
+use Rattle.model.specs.Limits.{maxCells}
+use Rattle.model.specs.Map.{Entry, toBatch}
+use Rattle.table.specs.Listed.{Listed}
+use Rattle.grid.specs.Batches.{entries}
+use Rattle.grid.specs.Change.{Changing, Done, Lent, refuseChange, shortFor}
+use Rattle.grid.specs.Floor.{Holds}
+use Rattle.grid.specs.declared.change.Changed.{Changed}
+use Rattle.grid.specs.declared.floor.Floor.{Floor}
+
+same-tables : (t u : Lent) → t .cells ≡ u .cells → t .confirmed ≡ u .confirmed → t .full ≡ u .full → t .corners ≡ u .corners → t .statuses ≡ u .statuses → t ≡ u
+same-tables t u a b c d e = rw (a, b, c, d, e) refl
+
+module _ (floor : Floor) (b : List ℤ) (t t₁ t₂ : Lent) (r₁ r₂ : Changed) (C : List ℕ) (h : Holds (t .cells) (floor .cells) C) where
+  done-one : Done floor C (entries b) t t₁ r₁ → Done floor C (entries b) t t₂ r₂ → (r₁ ≡ r₂) × (t₁ ≡ t₂)
+  done-one x y = (
+    x .answer ∙ sym (y .answer),
+    same-tables t₁ t₂ (x .cells ∙ sym (y .cells)) (x .changes .cells ∙ sym (y .changes .cells)) (x .changes .numbers ∙ sym (y .changes .numbers)) (x .altered .cells ∙ sym (y .altered .cells)) (x .altered .numbers ∙ sym (y .altered .numbers)),
+  )
+
+  pub change-one : Changing floor b t t₁ r₁ → Changing floor b t t₂ r₂ → (r₁ ≡ r₂) × (t₁ ≡ t₂)
+  change-one x y = go (refuseChange (shortFor t) (floor .size) (entries b) (ltb maxCells (length (cellsAfter (toBatch (entries b)) C)))) (x .refusal C h) (y .refusal C h)
+    where
+      go : (n : ℕ) → r₁ .refusal ≡ n → r₂ .refusal ≡ n → (r₁ ≡ r₂) × (t₁ ≡ t₂)
+      go zero p q = done-one (x .done C h p) (y .done C h q)
+      go (suc n) p q = (x .refused n p .1 ∙ sym (y .refused n q .1), x .refused n p .0 ∙ sym (y .refused n q .0))
