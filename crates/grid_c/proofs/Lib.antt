@@ -1,0 +1,2 @@
+-- The laws of crate `grid_c`.
+pub mod ToldLaws

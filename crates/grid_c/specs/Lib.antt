@@ -1,0 +1,2 @@
+-- What the contracts of crate `grid_c` cite.
+pub mod Told
