@@ -1,2 +1,3 @@
 -- The laws of crate `grid_c`.
+pub mod CalledLaws
 pub mod ToldLaws

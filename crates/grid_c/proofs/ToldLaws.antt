@@ -6,7 +6,7 @@ use mathlib.Core.List.{List}
 use mathlib.Core.Option.{Option, none, some}
 use lib.IntN.{ℤ}
 use lib.ListN.{length}
-use Rattle.model.specs.Cell.{key, xOf, yOf}
+use Rattle.model.specs.Cell.{key}
 use Rattle.model.specs.Good.{Inside}
 use Rattle.model.specs.Limits.{maxCoordinate}
 use Rattle.model.specs.Shape.{Found, ask}

@@ -1,2 +1,3 @@
 -- What the contracts of crate `grid_c` cite.
+pub mod Called
 pub mod Told

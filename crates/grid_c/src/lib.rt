@@ -1,4 +1,5 @@
 // The floor under C names, for Rust and C to call: benchmarks and comparisons go through here.
+use grid::change::change_cells;
 use grid::floor::Floor;
 use plane::point::Point;
 use question::ask::Place;
@@ -12,6 +13,7 @@ ghost use Rattle.model.specs.Shape.{ask};
 ghost use Rattle.grid.specs.Floor.{Holds};
 ghost use Rattle.question.specs.Ask.{refuseAsk};
 ghost use Rattle.question.specs.Question.{asked};
+ghost use Rattle.grid_c.specs.Called.{Called};
 ghost use Rattle.grid_c.specs.Told.{question, told};
 
 // 1 is a square, 2 a circle, 3 a sweep, any other number a point.
@@ -54,4 +56,37 @@ pub extern "C" fn runcedau_ask(
         Place::Nothing => answer.refusal as u64,
         Place::At(cell) => cell.key(),
     }
+}
+
+// A batch on a floor. `counts` gets how many changes were confirmed, how many corners altered, and how many cells are
+// occupied then; a refused call leaves it as it is.
+#[no_mangle]
+pub extern "C" fn runcedau_change_cells(
+    size: f64,
+    count: usize,
+    cells: &mut [u64],
+    batch: &[i64],
+    confirmed: &mut [u64],
+    full: &mut [u8],
+    corners: &mut [u64],
+    statuses: &mut [u8],
+    counts: &mut [u64],
+) -> u8
+    ensures { λ r. ⌜ Called (record { size = size; cells = count }) (now (batch .entry))
+        (record { cells = now (cells .entry); confirmed = now (confirmed .entry); full = now (full .entry); corners = now (corners .entry); statuses = now (statuses .entry) })
+        (record { cells = now (cells .exit); confirmed = now (confirmed .exit); full = now (full .exit); corners = now (corners .exit); statuses = now (statuses .exit) })
+        (now (counts .entry)) (now (counts .exit)) r ⌝ }
+{
+    if counts.len() < 3 {
+        return 9;
+    }
+    let floor = Floor { size, cells: count };
+    let r = change_cells(floor, cells, batch, confirmed, full, corners, statuses);
+    if r.refusal != 0 {
+        return r.refusal;
+    }
+    counts[0] = r.confirmed as u64;
+    counts[1] = r.corners as u64;
+    counts[2] = r.floor.cells as u64;
+    0
 }
