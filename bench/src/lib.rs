@@ -1,4 +1,7 @@
 //! The proved functions, as the archive of `rt staticlib ieee_c` exports them.
+use oracle::question::{Entry, Floor, Question};
+use oracle::stand_ins::Point;
+
 unsafe extern "C" {
     pub safe fn runcedau_root(x: f64) -> f64;
     pub safe fn runcedau_root_threshold(x: f64) -> f64;
@@ -63,5 +66,157 @@ pub fn near_cells(
             near.as_mut_ptr(),
             near.len(),
         )
+    }
+}
+
+/// The archive of `rt staticlib grid_c`.
+mod grid {
+    unsafe extern "C" {
+        pub fn runcedau_ask(
+            shape: u8,
+            size: f64,
+            x0: f64,
+            y0: f64,
+            x1: f64,
+            y1: f64,
+            length: f64,
+            count: usize,
+            cells: *const u64,
+            cells_len: usize,
+        ) -> u64;
+        pub fn runcedau_change_cells(
+            size: f64,
+            count: usize,
+            cells: *mut u64,
+            cells_len: usize,
+            batch: *const i64,
+            batch_len: usize,
+            confirmed: *mut u64,
+            confirmed_len: usize,
+            full: *mut u8,
+            full_len: usize,
+            corners: *mut u64,
+            corners_len: usize,
+            statuses: *mut u8,
+            statuses_len: usize,
+            counts: *mut u64,
+            counts_len: usize,
+        ) -> u8;
+    }
+}
+
+/// The proved grid with the tables that it is lent: cells and corners as keys.
+pub struct Proved {
+    size: f64,
+    count: usize,
+    cells: [u64; 1_024],
+    confirmed: [u64; 256],
+    full: [u8; 256],
+    corners: [u64; 2_304],
+    statuses: [u8; 2_304],
+    counts: [u64; 3],
+}
+
+impl Proved {
+    pub fn new(size: f64) -> Self {
+        Proved {
+            size,
+            count: 0,
+            cells: [0; 1_024],
+            confirmed: [0; 256],
+            full: [0; 256],
+            corners: [0; 2_304],
+            statuses: [0; 2_304],
+            counts: [0; 3],
+        }
+    }
+
+    pub fn cells(&self) -> &[u64] {
+        &self.cells[..self.count]
+    }
+
+    /// What the last accepted batch confirmed: each cell's key, and 1 or 0.
+    pub fn confirmed(&self) -> impl Iterator<Item = (u64, u8)> + '_ {
+        let used = self.counts[0] as usize;
+        self.confirmed.into_iter().zip(self.full).take(used)
+    }
+
+    /// Whose status it altered: each cell's key, and the status.
+    pub fn corners(&self) -> impl Iterator<Item = (u64, u8)> + '_ {
+        let used = self.counts[1] as usize;
+        self.corners.into_iter().zip(self.statuses).take(used)
+    }
+}
+
+impl Floor for Proved {
+    /// Three numbers an entry.
+    type Batch = Vec<i64>;
+    /// The refusal.
+    type Changes = u8;
+    /// The found cell's key, 0 for none, or the refusal.
+    type Answer = u64;
+
+    fn batch(entries: &[Entry]) -> Vec<i64> {
+        entries
+            .iter()
+            .flat_map(|&(x, y, occupied)| [x, y, occupied as i64])
+            .collect()
+    }
+
+    fn change(&mut self, batch: &Vec<i64>) -> u8 {
+        // SAFETY: every pointer is of a slice of the length given, and no two slices overlap.
+        let refusal = unsafe {
+            grid::runcedau_change_cells(
+                self.size,
+                self.count,
+                self.cells.as_mut_ptr(),
+                self.cells.len(),
+                batch.as_ptr(),
+                batch.len(),
+                self.confirmed.as_mut_ptr(),
+                self.confirmed.len(),
+                self.full.as_mut_ptr(),
+                self.full.len(),
+                self.corners.as_mut_ptr(),
+                self.corners.len(),
+                self.statuses.as_mut_ptr(),
+                self.statuses.len(),
+                self.counts.as_mut_ptr(),
+                self.counts.len(),
+            )
+        };
+        if refusal == 0 {
+            self.count = self.counts[2] as usize;
+        }
+        refusal
+    }
+
+    fn ask(&self, question: &Question) -> u64 {
+        let none = Point::new(0.0, 0.0);
+        let (shape, p, q, length) = match *question {
+            Question::Point(p) => (0, p, none, 0.0),
+            Question::Square(p, width) => (1, p, none, width),
+            Question::Circle(p, radius) => (2, p, none, radius),
+            Question::Sweep(p, q, width) => (3, p, q, width),
+        };
+        // SAFETY: the pointer is of a slice of the length given, and nothing is written.
+        unsafe {
+            grid::runcedau_ask(
+                shape,
+                self.size,
+                p.x,
+                p.y,
+                q.x,
+                q.y,
+                length,
+                self.count,
+                self.cells.as_ptr(),
+                self.cells.len(),
+            )
+        }
+    }
+
+    fn found(&self, question: &Question) -> u64 {
+        self.ask(question)
     }
 }

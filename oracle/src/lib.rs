@@ -1,7 +1,10 @@
 //! What the proved code is compared with, and what the comparisons share.
 
+pub mod judged;
+pub mod layouts;
 pub mod ordered;
 pub mod published;
+pub mod question;
 pub mod stand_ins;
 pub mod vectors;
 
@@ -47,5 +50,9 @@ pub fn column(n: i64) -> u64 {
 
 /// The number that the tables hold for a cell.
 pub fn key(c: &Cell) -> u64 {
-    (column(c.x) << 32) + column(c.y)
+    key_of(c.x, c.y)
+}
+
+pub fn key_of(x: i64, y: i64) -> u64 {
+    (column(x) << 32) + column(y)
 }

@@ -8,3 +8,6 @@ pub mod maps {
 
 #[path = "occupancy/mod.rs"]
 pub mod occupancy;
+
+#[path = "floor.rs"]
+mod floor;

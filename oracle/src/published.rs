@@ -6,3 +6,6 @@ pub mod maps {
 
 #[path = "occupancy/mod.rs"]
 pub mod occupancy;
+
+#[path = "floor.rs"]
+mod floor;

@@ -1,4 +1,5 @@
 //! What the lists of vectors share: bit patterns, awkward values, and the two files of a list.
+use crate::occupancy::{Cell, Point};
 
 pub const SIGN: u64 = 1 << 63;
 pub const INFINITY: u64 = 2047 << 52;
@@ -44,6 +45,16 @@ pub fn special() -> Vec<u64> {
     list
 }
 
+/// n values up or down from x.
+pub fn stepped(x: f64, n: i64) -> f64 {
+    (0..n.abs()).fold(x, |x, _| if n > 0 { x.next_up() } else { x.next_down() })
+}
+
+/// The point that is u columns and v rows from the cell's low corner.
+pub fn place(cell: Cell, size: f64, u: f64, v: f64) -> Point {
+    Point::new(size * (cell.x as f64 + u), size * (cell.y as f64 + v))
+}
+
 /// The vectors as a program reads them, and as it is to write them.
 #[derive(Default)]
 pub struct Vectors {
@@ -51,13 +62,25 @@ pub struct Vectors {
     answered: String,
 }
 
+fn digits(numbers: &[u64]) -> String {
+    numbers.iter().map(|n| format!(" {n:016x}")).collect()
+}
+
 impl Vectors {
     pub fn push(&mut self, function: char, operands: &[u64], answer: &[u64]) {
-        let digits =
-            |numbers: &[u64]| -> String { numbers.iter().map(|n| format!(" {n:016x}")).collect() };
         let line = format!("{function}{}", digits(operands));
         self.asked += &format!("{line}\n");
         self.answered += &format!("{line}{}\n", digits(answer));
+    }
+
+    /// A further line of an answer, which the program writes after the line before.
+    pub fn answer_more(&mut self, mark: char, numbers: &[u64]) {
+        self.answered += &format!("{mark}{}\n", digits(numbers));
+    }
+
+    /// How many bytes the program reads.
+    pub fn bytes(&self) -> usize {
+        self.asked.len()
     }
 
     /// To `stdin` and `stdout` in the folder that is the program's one argument.

@@ -4,7 +4,7 @@
 //! many answers came about in each way.
 use oracle::occupancy::util::{LineSegment, SearchF64};
 use oracle::occupancy::{Cell, Point, Vector};
-use oracle::vectors::{pattern, special, Vectors};
+use oracle::vectors::{pattern, place, special, stepped, Vectors};
 use oracle::{key, Random};
 use std::collections::BTreeMap;
 
@@ -196,16 +196,6 @@ const ODD: [f64; 18] = [
     1e17,
     -1.0,
 ];
-
-/// n values up or down from x.
-fn stepped(x: f64, n: i64) -> f64 {
-    (0..n.abs()).fold(x, |x, _| if n > 0 { x.next_up() } else { x.next_down() })
-}
-
-/// The point that is u columns and v rows from the cell's low corner.
-fn place(cell: Cell, size: f64, u: f64, v: f64) -> Point {
-    Point::new(size * (cell.x as f64 + u), size * (cell.y as f64 + v))
-}
 
 #[derive(Default)]
 struct List {
