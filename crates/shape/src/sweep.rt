@@ -142,13 +142,18 @@ impl Strip {
             .with_corner(self.d, left, right)
     }
 
-    fn with_sides(self, h: Heights, x: f64) -> Heights
-        ensures { λ r. ⌜ r ≡ met h (sidesAt (sides (strip self)) x) ⌝ }
+    // Both lines in one function, which has one place of call: so the heights stay in registers.
+    fn with_sides(self, h: Heights, left: f64, right: f64) -> Heights
+        ensures { λ r. ⌜ r ≡ met (met h (sidesAt (sides (strip self)) left)) (sidesAt (sides (strip self)) right) ⌝ }
     {
-        h.with_side(self.a, self.b, x)
-            .with_side(self.a, self.c, x)
-            .with_side(self.b, self.d, x)
-            .with_side(self.c, self.d, x)
+        h.with_side(self.a, self.b, left)
+            .with_side(self.a, self.c, left)
+            .with_side(self.b, self.d, left)
+            .with_side(self.c, self.d, left)
+            .with_side(self.a, self.b, right)
+            .with_side(self.a, self.c, right)
+            .with_side(self.b, self.d, right)
+            .with_side(self.c, self.d, right)
     }
 
     // The rows in column x: between the heights of the corners in the column and of the sides at its two
@@ -162,7 +167,6 @@ impl Strip {
         let left = cell::begins(x as u32, size);
         let right = cell::ends(x as u32, size);
         let in_column = self.with_corners(Heights::new(), left, right);
-        let at_left = self.with_sides(in_column, left);
-        self.with_sides(at_left, right).rows(size)
+        self.with_sides(in_column, left, right).rows(size)
     }
 }
