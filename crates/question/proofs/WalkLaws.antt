@@ -16,6 +16,7 @@ use Rattle.lists.proofs.Parts.{tail-is}
 use Rattle.model.specs.Cell.{W, col, row}
 use Rattle.model.specs.Maps.{AscL, find, sift}
 use Rattle.model.specs.Shape.{Found}
+use Rattle.shape.specs.Bounds.{inBounds}
 use Rattle.shape.specs.declared.bounds.Bounds.{Bounds}
 use Rattle.table.specs.Columns.{InColumn, columnOf, rowsFrom}
 use Rattle.table.specs.Tables.{All, rank}
@@ -107,6 +108,36 @@ module _ (columns : Bounds) (s : Shape) (l : List ℕ) where
       ∙ find-back (taken columns s) (take n l) (drop n l) (find-nowhere (taken columns s) (take n l) (all-map (take n l) (λ k b. rw (lt-leb (columns .low) (col k) (omega arith)) refl) (q .0)))
       ∙ find-agree (taken columns s) (below (columns .high) s) (drop n l) (all-map (drop n l) (λ k b. rw (le-leb (columns .low) (col k) (omega arith)) refl) (q .1)))
 
+  -- the same, where the rows are the same everywhere: no cell has so high a row, and the cells before the first row of the first column do not count either
+  module _ (rows : Bounds) (same : (x : ℕ) → rowsAt s x ≡ rows) where
+    pub row-beyond : W ≤ rows .low → none ≡ find (taken columns s) l
+    row-beyond h =
+        sym (find-nowhere (taken columns s) l (all-from (λ k. taken columns s k ≡ false) l (λ i. let k = getD l i 0 in outside k (omega arith))))
+      where
+        outside : (k : ℕ) → row k < rows .low → taken columns s k ≡ false
+        outside k b = rw (same (col k), lt-leb (rows .low) (row k) b) (and-false (inBounds columns (col k)))
+
+    pub place-passed : (i : ℕ) → AscL 0 l → rows .low < W → i ≡ rank (columns .low * W + rows .low) l → find (taken columns s) l ≡ find (below (columns .high) s) (drop i l)
+    place-passed i a w e =
+        let p = columns .low * W + rows .low in
+        let n = rank p l in
+        let q = rank-splits 0 p l a in
+        rw e
+        (ap (find (taken columns s)) (sym (take-append-drop n l))
+        ∙ find-back (taken columns s) (take n l) (drop n l) (find-nowhere (taken columns s) (take n l) (all-map (take n l) before (q .0)))
+        ∙ find-agree (taken columns s) (below (columns .high) s) (drop n l) (all-map (drop n l) (λ k b. rw (le-leb (columns .low) (col k) (omega arith)) refl) (q .1)))
+      where
+        before : (k : ℕ) → k < columns .low * W + rows .low → taken columns s k ≡ false
+        before k b = ⊎-elim left right (lt-or-ge (col k) (columns .low))
+          where
+            left : col k < columns .low → taken columns s k ≡ false
+            left c = rw (lt-leb (columns .low) (col k) c) refl
+
+            right : columns .low ≤ col k → taken columns s k ≡ false
+            right c =
+                let r : row k < rows .low = omega arith in
+                rw (same (col k), lt-leb (rows .low) (row k) r) (and-false (inBounds columns (col k)))
+
 -- column x is the front stretch of an ascending list that begins in it
 front-test : (x k : ℕ) → x * W ≤ k → eqb (col k) x ≡ ltb k ((x + 1) * W)
 front-test x k h =
@@ -135,6 +166,10 @@ module _ (high : ℕ) (s : Shape) (l : List ℕ) (i : ℕ) (h : i < length l) (a
 
   pub column-past : high ≤ col y → find (below high s) (drop i l) ≡ none
   column-past b = find-nowhere (below high s) (drop i l) (all-map (drop i l) (λ k c. rw (le-ltb (col k) high (omega arith)) refl) (from-here l i h a))
+
+  -- y itself
+  pub cell-here : col y < high → columnTaken s (col y) y ≡ true → find (below high s) (drop i l) ≡ some y
+  cell-here b t = ap (find (below high s)) (drop-cons l i 0 h) ∙ find-here (below high s) y (drop (suc i) l) (rw (lt-ltb (col y) high b) t)
 
   -- m is the column as it was cut out of the rest of the table, r what was found in it
   module _ (m : List ℕ) (e : AscL 0 (take (length l - i) (drop i l)) → m ≡ columnOf (col y) (take (length l - i) (drop i l))) where

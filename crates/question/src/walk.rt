@@ -12,6 +12,7 @@ use table::place::place;
 ghost use mathlib.Core.Path.{_≡_};
 ghost use Prim.Native.Nat.{ℕ};
 ghost use Rattle.model.specs.Maps.{AscL, find};
+ghost use Rattle.shape.specs.Bounds.{inBounds};
 ghost use Rattle.shape.specs.declared.bounds.Bounds.{Bounds};
 ghost use Rattle.table.specs.Columns.{InColumn};
 ghost use Rattle.question.specs.Walk.{columnTaken, flat, found, round, rowTaken, swept, taken};
@@ -20,6 +21,15 @@ ghost use Rattle.question.specs.Walk.{columnTaken, flat, found, round, r
 const WIDTH: u64 = 4294967296;
 
 // ---- one column
+
+fn in_rows(y: u64, rows: Bounds) -> bool
+    ensures { λ r. ⌜ r ≡ inBounds rows y ⌝ }
+{
+    if rows.low <= y {
+        return y < rows.high;
+    }
+    false
+}
 
 // The first of the cells from a row on, if it lies below the row `high`.
 fn lowest(rows: &[u64], high: u64) -> Found
@@ -81,7 +91,7 @@ fn swept_in(col: &[u64], x: u64, strip: Strip, size: f64) -> Found
 
 // ---- all columns
 
-// The same rows in every column.
+// The same rows in every column. The first cell from the first row of the first column on is often the one.
 pub(crate) fn first_flat(cells: &[u64], columns: Bounds, rows: Bounds) -> Found
     ensures { λ r. ⌜ (AscL 0 (now (cells .entry)) → found r ≡ record { cell = find (taken columns (flat rows)) (now (cells .entry)) }) ⌝ }
 {
@@ -90,13 +100,22 @@ pub(crate) fn first_flat(cells: &[u64], columns: Bounds, rows: Bounds) -> Found
             cell: Spot::Nothing,
         };
     }
-    let mut i = place(cells, columns.low * WIDTH);
+    if WIDTH <= rows.low {
+        return Found {
+            cell: Spot::Nothing,
+        };
+    }
+    let mut i = place(cells, columns.low * WIDTH + rows.low);
     while i < cells.len() {
-        let x = cells[i] / WIDTH;
+        let k = cells[i];
+        let x = k / WIDTH;
         if columns.high <= x {
             return Found {
                 cell: Spot::Nothing,
             };
+        }
+        if in_rows(k % WIDTH, rows) {
+            return Found { cell: Spot::At(k) };
         }
         let col = column(&cells[i..], x);
         let here = flat_in(col, rows);
