@@ -31,6 +31,15 @@ fn in_rows(y: u64, rows: Bounds) -> bool
     false
 }
 
+fn met_in_rows(k: u64, rows: Bounds, circle: Circle) -> bool
+    ensures { λ r. ⌜ r ≡ columnTaken (round rows circle) 0 k ⌝ }
+{
+    if in_rows(k % WIDTH, rows) {
+        return circle.meets(k);
+    }
+    false
+}
+
 // The first of the cells from a row on, if it lies below the row `high`.
 fn lowest(rows: &[u64], high: u64) -> Found
     ensures { λ r. ⌜ ((x : ℕ) (b : Bounds) → AscL 0 (now (rows .entry)) → InColumn x (now (rows .entry)) → found r ≡ record { cell = find (rowTaken high (flat b)) (now (rows .entry)) }) ⌝ }
@@ -144,13 +153,22 @@ pub(crate) fn first_round(cells: &[u64], columns: Bounds, rows: Bounds, circle: 
             cell: Spot::Nothing,
         };
     }
-    let mut i = place(cells, columns.low * WIDTH);
+    if WIDTH <= rows.low {
+        return Found {
+            cell: Spot::Nothing,
+        };
+    }
+    let mut i = place(cells, columns.low * WIDTH + rows.low);
     while i < cells.len() {
-        let x = cells[i] / WIDTH;
+        let k = cells[i];
+        let x = k / WIDTH;
         if columns.high <= x {
             return Found {
                 cell: Spot::Nothing,
             };
+        }
+        if met_in_rows(k, rows, circle) {
+            return Found { cell: Spot::At(k) };
         }
         let col = column(&cells[i..], x);
         let here = round_in(col, rows, circle);
