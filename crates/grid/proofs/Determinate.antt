@@ -1,14 +1,13 @@
 -- Any two outcomes that the contract of `change_cells` permits are equal, of every floor that holds its cells. Assumes nothing.
 use Prim.Native.Nat.{ℕ, zero, suc}
 use mathlib.Core.Path.{_≡_, refl, sym, _∙_}
-use mathlib.Core.List.{List, _++_}
+use mathlib.Core.List.{List}
 use lib.Dec.{ltb}
 use lib.IntN.{ℤ}
 use lib.ListN.{length}
 use Rattle.model.specs.Batch.{cellsAfter}
 use Rattle.model.specs.Limits.{maxCells}
-use Rattle.model.specs.Map.{Entry, toBatch}
-use Rattle.table.specs.Listed.{Listed}
+use Rattle.model.specs.Map.{toBatch}
 use Rattle.grid.specs.Batches.{entries}
 use Rattle.grid.specs.Change.{Changing, Done, Lent, refuseChange, shortFor}
 use Rattle.grid.specs.Floor.{Holds}
