@@ -509,7 +509,10 @@ impl List {
         self.sweep_along_a_diagonal();
         self.sweep_through_a_corner();
         self.strip_with_its_corner_on_a_corner();
-        self.sweep_that_ends_at_a_corner();
+        match self.random.below(2) {
+            0 => self.line_that_ends_at_a_corner(),
+            _ => self.strip_that_ends_at_a_corner(),
+        }
         self.short_sweep();
         self.nearly_upright_sweep();
         self.long_sweep();
@@ -568,31 +571,33 @@ impl List {
         self.sweep_at(kind, cell, [p, q], 10.0 * aside);
     }
 
-    /// A line or a strip comes through the cell's column from above or below, and its end is on the column's border;
-    /// one step decides whether it reaches the cell. The longer it is, the more digits are lost on the way.
-    fn sweep_that_ends_at_a_corner(&mut self) {
+    /// It comes through the cell's column from above or below and ends on the column's border; one step decides whether
+    /// it reaches the cell. The longer it is, the more digits are lost on the way.
+    fn line_that_ends_at_a_corner(&mut self) {
         let (cell, (m, n)) = (self.occupied_cell(), self.corner());
-        let (size, up) = (self.floor.size(), 2.0 * n - 1.0);
         let end = self.at(cell, (m, n));
-        let times = self.random.pick(&[1.0, 16.0, 256.0]) * size;
-        let heights = [-0.5 * size, 0.5 * size];
-        if self.random.below(2) == 0 {
-            let [u, v] = [(); 2].map(|_| self.quarters(3.0).abs() + 0.25);
-            let start = end + Vector::new((1.0 - 2.0 * m) * u, up * v) * times;
-            self.ask_between("ends at a corner", heights.map(|h| end.y + h), |y| {
-                Sweep(start, Point::new(end.x, y), 0.0)
-            });
-        } else {
-            // so that the last of the strip's four corners is its lowest, or its highest
-            let (u, v) = self.random.pick(&[(3.0, -4.0), (4.0, -3.0)]);
-            let [along, aside] = [(); 2].map(|_| up * times * self.random.pick(&EIGHTHS));
-            let last = end + Vector::new(-v, u) * aside;
-            let first = last - Vector::new(u, v) * along;
-            let kind = "the strip's last corner at a corner";
-            self.ask_between(kind, heights.map(|h| last.y + h), |y| {
-                Sweep(first, Point::new(last.x, y), 10.0 * aside.abs())
-            });
-        }
+        let times = self.random.pick(&[1.0, 16.0, 256.0]) * self.floor.size();
+        let [u, v] = [(); 2].map(|_| self.quarters(3.0).abs() + 0.25);
+        let start = end + Vector::new((1.0 - 2.0 * m) * u, (2.0 * n - 1.0) * v) * times;
+        let half = 0.5 * self.floor.size();
+        self.ask_between("ends at a corner", [end.y - half, end.y + half], |y| {
+            Sweep(start, Point::new(end.x, y), 0.0)
+        });
+    }
+
+    /// Likewise; the last of the strip's four corners is its lowest, or its highest, and is on the column's border.
+    fn strip_that_ends_at_a_corner(&mut self) {
+        let (cell, (m, n)) = (self.occupied_cell(), self.corner());
+        let times = self.random.pick(&[1.0, 16.0, 256.0]) * self.floor.size();
+        let (u, v) = self.random.pick(&[(3.0, -4.0), (4.0, -3.0)]);
+        let [along, aside] = [(); 2].map(|_| (2.0 * n - 1.0) * times * self.random.pick(&EIGHTHS));
+        let last = self.at(cell, (m, n)) + Vector::new(-v, u) * aside;
+        let first = last - Vector::new(u, v) * along;
+        let (half, width) = (0.5 * self.floor.size(), 10.0 * aside.abs());
+        let kind = "the strip's last corner at a corner";
+        self.ask_between(kind, [last.y - half, last.y + half], |y| {
+            Sweep(first, Point::new(last.x, y), width)
+        });
     }
 
     /// Which side of 1e-8 its length is on tells whether the width counts.
@@ -826,11 +831,16 @@ impl List {
 /// Borders whose quotient by the size is not their number, so that the border itself lies in the column before it, or
 /// a part of what is before it in the column behind.
 impl List {
-    fn doubtful(&mut self) -> i64 {
-        let size = self.floor.size();
+    fn doubtful(&self, n: &i64) -> bool {
+        let (size, number) = (self.floor.size(), *n as f64);
+        size * number / size != number
+    }
+
+    fn any_doubtful(&mut self) -> i64 {
+        let most = self.random.pick(&[100, MOST_COORDINATE as u64]);
         loop {
-            let n = self.random.below(MOST_COORDINATE as u64) as i64;
-            if size * n as f64 / size != n as f64 {
+            let n = self.random.below(most) as i64;
+            if self.doubtful(&n) {
                 return self.random.pick(&[n, -n]);
             }
         }
@@ -839,15 +849,49 @@ impl List {
     fn doubtful_floors(&mut self) {
         for size in [0.1, 3.7, 1000.1, 1.0 / 3.0, 12_345.678] {
             self.open(size);
-            let (x, y) = (self.doubtful(), self.doubtful());
-            self.batch("doubtful borders", &[(x - 1, y - 1, true), (x, y, true)]);
+            let x = (1..).find(|n| self.doubtful(n)).unwrap();
+            let y = self.any_doubtful();
+            let (low, high) = (Cell::new(x - 1, y - 1), Cell::new(x, y));
+            self.batch("doubtful borders", &added([low, high]));
             for _ in 0..3 {
                 self.points();
                 self.squares();
-                for _ in 0..4 {
+                for _ in 0..3 {
                     self.circle_by_a_side();
                     self.sweep_along_an_axis();
                 }
+            }
+            self.batch("doubtful borders", &freed([high]));
+            self.circles_by_a_doubtful_corner(low, (1.0, 1.0));
+            self.batch("doubtful borders", &[(x - 1, y - 1, false), (x, y, true)]);
+            self.circles_by_a_doubtful_corner(high, (0.0, 0.0));
+        }
+    }
+
+    /// They touch the middles of the two sides that meet there.
+    fn circles_by_a_doubtful_corner(&mut self, cell: Cell, corner: Offset) {
+        let (centre, corner) = (self.at(cell, (0.5, 0.5)), self.at(cell, corner));
+        for part in [0.25, 0.5, 1.0, 2.0, 4.0] {
+            let radius = part * power_below(self.floor.size());
+            let [out, up] = [corner.x - centre.x, corner.y - centre.y].map(|d| radius.copysign(d));
+            for p in [
+                Point::new(corner.x + out, centre.y),
+                Point::new(centre.x, corner.y + up),
+            ] {
+                self.ask("touches a doubtful border", Circle(p, radius));
+            }
+        }
+    }
+}
+
+/// Nothing else is found here, however wide the strip.
+impl List {
+    fn floors_of_one_cell(&mut self) {
+        for (size, x, y) in [(1.0, 1, 1), (2.0, 0, 0), (256.0, -1, 3), (1024.0, 5, -3)] {
+            self.open(size);
+            self.batch("one cell", &[(x, y, true)]);
+            for _ in 0..10 {
+                self.strip_that_ends_at_a_corner();
             }
         }
     }
@@ -1022,12 +1066,9 @@ impl List {
         const END: i64 = MOST_COORDINATE;
         self.open(256.0);
         self.batch("block", &added(block(3, 3)));
-        let many = |n: i64| added((0..n).map(|i| Cell::new(i / 20, 30 + i % 20)));
-        self.refused("257 entries", &many(257));
-        self.refused(
-            "257 times one entry, outside",
-            &vec![(END + 1, 0, true); 257],
-        );
+        let mut many = added((0..256).map(|i| Cell::new(i / 20, 30 + i % 20)));
+        many.push((9, END + 1, true));
+        self.refused("257 entries, the last outside, in disorder", &many);
         let pairs: [(&str, Entry, Entry); 12] = [
             ("named twice", (9, 9, true), (9, 9, true)),
             ("named twice", (9, 9, false), (9, 9, true)),
@@ -1125,6 +1166,7 @@ fn main() {
     list.empty_floors();
     list.outermost_floors();
     list.doubtful_floors();
+    list.floors_of_one_cell();
     list.rough_floors();
     list.scattered_floor();
     list.full_floor();
