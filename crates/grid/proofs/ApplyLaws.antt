@@ -5,7 +5,7 @@ use mathlib.Core.Path.{_≡_, refl, sym, ap, _∙_, subst}
 use mathlib.Core.Bool.{false}
 use mathlib.Core.List.{List, [], _∷_, _++_}
 use lib.ListN.{length, take, drop}
-use lib.Seq.{take-append-seam, drop-append-seam}
+use lib.Seq.{take-append-seam}
 use Rattle.model.specs.Batch.{Batch, cellsAfter, confirmed, cornerChanges}
 use Rattle.model.specs.Corner.{Bits}
 use Rattle.model.specs.Good.{Inside}
@@ -25,7 +25,7 @@ use Rattle.grid.specs.Change.{Applying, Done}
 use Rattle.grid.specs.Floor.{Holds}
 use Rattle.grid.specs.declared.floor.Floor.{Floor}
 use Rattle.grid.proofs.BatchLaws.{Settled, settled, batch-length}
-use Rattle.grid.proofs.FloorLaws.{holds-cells}
+use Rattle.grid.proofs.FloorLaws.{behind, holds-cells}
 
 -- ---- lists of changes
 flags-keys : (b : Batch) → keys (flags b) ≡ keys b
@@ -49,10 +49,6 @@ pub holds-table : (t : List ℕ) (n : ℕ) (C : List ℕ) → Holds t n C → ta
 holds-table t n C h =
     let e : length (pad maxCells C) ≡ maxCells = pad-length maxCells C (h .room) in
     ap (λ (m : ℕ). take m t) (sym e) ∙ ap (take (length (pad maxCells C))) (h .table) ∙ take-append-seam (pad maxCells C) (drop maxCells t)
-
-behind : (C d u : List ℕ) → length C ≤ maxCells → u ≡ pad maxCells C ++ d → drop maxCells u ≡ d
-behind C d u h e =
-    ap (λ (m : ℕ). drop m u) (sym (pad-length maxCells C h)) ∙ ap (drop (length (pad maxCells C))) e ∙ drop-append-seam (pad maxCells C) d
 
 -- ---- what the three steps promise, of the cells u, the turned cells k with the numbers m, and the first places p of the table
 abbrev pub Confirms : List Entry → List ℕ → List ℕ → List ℕ → List ℕ → List ℕ → ℕ → Type 0

@@ -1,6 +1,5 @@
 -- A question's refusals in their order, and what a call of `ask` answers. Assumes nothing.
-use Prim.Native.Nat.{ℕ, suc, _≤_, _<_}
-use native.Mathlib.Omega.{arith}
+use Prim.Native.Nat.{ℕ, _≤_, _<_}
 use mathlib.Core.Path.{_≡_, refl, sym, ap, _∙_, subst}
 use mathlib.Core.Bool.{Bool, true, false, cond, or-false}
 use mathlib.Core.List.{List}
@@ -18,15 +17,13 @@ use Rattle.table.specs.Tables.{All}
 use Rattle.grid.specs.Floor.{Holds}
 use Rattle.grid.specs.declared.floor.Floor.{Floor}
 use Rattle.grid.proofs.FloorLaws.{holds-cells}
+use Rattle.grid.proofs.RefuseLaws.{apart}
 use Rattle.question.specs.Ask.{Asked, cellAt, nowhere, placed, refuseAsk}
 use Rattle.question.specs.Question.{asked}
 use Rattle.question.specs.Walk.{found, spotted}
 use Rattle.question.specs.declared.ask.Answer.{Answer}
 use Rattle.question.specs.declared.search.Found.{Found}
 use Rattle.question.specs.declared.search.Question as code
-
-apart : {k : ℕ} → suc k ≡ 0 → ⊥
-apart e = omega arith
 
 module _ (room : ℕ) (c : Float) (n : ℕ) (q : Question) where
   in-turn : refuseAsk room c n q ≡ cond (ltb room 1024) 9 (cond (badSize c) 1 (cond (ltb 1024 n) 6 (cond (badQuestion q) 8 0)))

@@ -1,6 +1,6 @@
 // The first cell that a shape takes, by columns and rows. A column is a stretch of the table, and the rows asked for
-// are a stretch that begins inside it. The three walks differ in what they ask of a column; one walk over an enum of
-// shapes took twice as long for a square.
+// are a stretch that begins inside it. There is a walk for each shape: a square and a circle can look at one cell
+// before they cut its column out of the table, a strip has to work out its rows first.
 use crate::search::Found;
 use crate::search::Spot;
 use shape::bounds::Bounds;
