@@ -12,7 +12,7 @@ use std::time::Instant;
 
 const SIZE: f64 = 256.0;
 const COUNTS: [usize; 3] = [10, 100, 1_000];
-const QUESTIONS: usize = 1_000;
+const QUESTIONS: usize = 20_000;
 /// Of a batch and the one that undoes it.
 const PAIRS: usize = 20;
 const ROUNDS: usize = 50;

@@ -4,7 +4,6 @@ pub mod ChangeLaws
 pub mod CornersLaws
 pub mod MetLaws
 pub mod RowLaws
-pub mod SearchLaws
 pub mod StatusLaws
 pub mod WindowLaws
 pub mod WordLaws

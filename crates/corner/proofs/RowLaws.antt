@@ -14,7 +14,7 @@ use Rattle.ieee.proofs.Tools.{lt-or-ge}
 use Rattle.model.specs.Maps.{AscL, has}
 use Rattle.table.specs.Tables.{rank, stands}
 use Rattle.table.proofs.LookLaws.{stands-has, stands-inside}
-use Rattle.corner.specs.Search.{Placed}
+use Rattle.table.specs.Search.{Placed}
 use Rattle.corner.specs.Window.{on}
 use Rattle.corner.proofs.WordLaws.{on-beyond, on-low, on-top}
 

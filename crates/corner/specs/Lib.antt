@@ -1,6 +1,5 @@
 -- What the contracts of crate `corner` cite.
 pub mod Changes
 pub mod Corners
-pub mod Search
 pub mod Turns
 pub mod Window

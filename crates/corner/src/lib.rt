@@ -1,5 +1,4 @@
 // Corners of occupied cells: a cell's status, and the statuses that a batch altered.
 pub mod changes;
-mod places;
 pub mod status;
 mod window;

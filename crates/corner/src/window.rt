@@ -1,11 +1,11 @@
 // The 5 by 5 cells around a cell as a word: bit 5 * i + j is the cell i columns and j rows from the lowest key on.
-use crate::places::places_of;
 use table::place::stands_at;
+use table::places::places_of;
 ghost use mathlib.Core.Path.{_≡_};
 ghost use Prim.Native.Nat.{ℕ, _+_, _*_, _^_, _<_};
 ghost use Rattle.model.specs.Cell.{W};
 ghost use Rattle.model.specs.Maps.{AscL, has};
-ghost use Rattle.corner.specs.Search.{Placed};
+ghost use Rattle.table.specs.Search.{Placed};
 ghost use Rattle.corner.specs.Window.{Sees, beside, differing, northeasts, northwests, on, southeasts, southwests, statusAt};
 
 // Which cells have which corner.

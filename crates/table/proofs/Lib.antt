@@ -4,6 +4,7 @@ pub mod ColumnLaws
 pub mod ListedLaws
 pub mod LookLaws
 pub mod RankLaws
+pub mod SearchLaws
 pub mod ShiftLaws
 pub mod SiftLaws
 pub mod TableLaws

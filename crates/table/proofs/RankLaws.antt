@@ -1,5 +1,5 @@
 -- The place of a key in an ascending list. Assumes nothing.
-use Prim.Native.Nat.{ℕ, zero, suc, _+_, _-_, _*_, _/_, _≤_, _<_, zero-le, suc-le-suc}
+use Prim.Native.Nat.{ℕ, zero, suc, _+_, _-_, _*_, _≤_, _<_, zero-le, suc-le-suc}
 use native.Mathlib.Nat.{le-of-suc-le-suc, not-suc-le-zero}
 use native.Mathlib.Omega.{arith}
 use mathlib.Core.Path.{_≡_, refl, sym, ap}
@@ -66,22 +66,6 @@ rank-splits lo k (x ∷ l) a = ⊎-elim (less (rank-splits (suc x) k l (a .1))) 
 pub record Between (k : ℕ) (l : List ℕ) (at n : ℕ) : Type 0 where
   pub inside : at + n ≤ length l
   pub near : AscL 0 l → (at ≤ rank k l) × (rank k l ≤ at + n)
-
-pub between-all : (k : ℕ) (l : List ℕ) → Between k l 0 (length l)
-between-all k l = record { inside = omega arith; near = λ a. omega (arith, rank-le k l) }
-
-module _ (k : ℕ) (l : List ℕ) (at n : ℕ) (some : 0 < n) (b : Between k l at n) where
-  pub between-after : getD l (at + (n - 1) / 2) 0 < k → Between k l (at + (n - 1) / 2 + 1) (n / 2)
-  between-after h = record {
-    inside = omega (arith, b .inside);
-    near = λ a. let q = b .near a in omega (arith, b .inside, rank-above 0 k l (at + (n - 1) / 2) a (omega (arith, b .inside)) h);
-  }
-
-  pub between-before : k ≤ getD l (at + (n - 1) / 2) 0 → Between k l at (n / 2)
-  between-before h = record {
-    inside = omega (arith, b .inside);
-    near = λ a. let q = b .near a in omega (arith, b .inside, rank-below k l (at + (n - 1) / 2) (omega (arith, b .inside)) h);
-  }
 
 -- ---- the search in a stretch: k's place there is its place, where the stretch has it
 rank-front : (k m : ℕ) (l : List ℕ) → rank k l ≤ m → rank k (take m l) ≡ rank k l

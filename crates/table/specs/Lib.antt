@@ -1,4 +1,5 @@
 -- What the contracts of crate `table` cite.
 pub mod Columns
 pub mod Listed
+pub mod Search
 pub mod Tables

@@ -3,4 +3,6 @@
 // an ascending one.
 pub mod change;
 pub mod column;
+mod look;
 pub mod place;
+pub mod places;

@@ -1,25 +1,28 @@
 // Where a key stands in a table.
+use crate::look::begin;
+use crate::look::exponent;
+use crate::look::look;
+use crate::look::power;
 ghost use mathlib.Core.Path.{_≡_};
 ghost use Prim.Native.Nat.{_≤_};
 ghost use lib.ListN.{length};
 ghost use Rattle.model.specs.Maps.{AscL, has};
 ghost use Rattle.table.specs.Tables.{rank, stands};
 
-// How many keys are below k: where k stands, or would stand. That is never more than n places after `at`,
-// and n is halved whatever the test says.
+// How many keys are below k: where k stands, or would stand.
 pub fn place(t: &[u64], k: u64) -> usize
     ensures { λ r. ⌜ (r ≤ length (now (t .entry))) × (AscL 0 (now (t .entry)) → r ≡ rank k (now (t .entry))) ⌝ }
 {
-    let mut at = 0;
-    let mut n = t.len();
-    while 0 < n {
-        let mid = at + (n - 1) / 2;
-        if t[mid] < k {
-            at = mid + 1;
-        }
-        n = n / 2;
+    if t.len() == 0 {
+        return 0;
     }
-    at
+    let mut s = exponent(t.len());
+    let mut at = begin(t, power(s), k);
+    while 0 < s {
+        s -= 1;
+        at = look(t, at, s, k);
+    }
+    look(t, at, 0, k)
 }
 
 // The same, for a key that stands near the front: the stretch that is searched begins with one key and doubles.

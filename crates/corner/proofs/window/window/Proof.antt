@@ -11,34 +11,44 @@ returns c =
     (omega arith, λ h. sees-none (a .t .now) (a .low) (c .if1 .taken))
 
 places-of-requires : tie.Need-places-of-requires
-places-of-requires c κs = search needs
+places-of-requires c κs = tt
 
 five-requires : tie.Need-five-requires
-five-requires c κs = search needs
+five-requires c κs =
+    let w = c .before .before .before .pre in
+    (c .places-of .ensures (omega (arith, w)) .0, omega (arith, w))
 
 add-five : tie.Need-add-five
 add-five c = search needs
 
 five-requires-2 : tie.Need-five-requires-2
-five-requires-2 c κs = search needs
+five-requires-2 c κs =
+    let w = c .before .before .before .before .pre in
+    (c .before .places-of .ensures (omega (arith, w)) .1, omega (arith, w))
 
 add-five-2 : tie.Need-add-five-2
 add-five-2 c = search needs
 
 five-requires-3 : tie.Need-five-requires-3
-five-requires-3 c κs = search needs
+five-requires-3 c κs =
+    let w = c .before .before .before .before .before .pre in
+    (c .before .before .places-of .ensures (omega (arith, w)) .2, omega (arith, w))
 
 add-five-3 : tie.Need-add-five-3
 add-five-3 c = search needs
 
 five-requires-4 : tie.Need-five-requires-4
-five-requires-4 c κs = search needs
+five-requires-4 c κs =
+    let w = c .before .before .before .before .before .before .pre in
+    (c .before .before .before .places-of .ensures (omega (arith, w)) .3, omega (arith, w))
 
 add-five-4 : tie.Need-add-five-4
 add-five-4 c = search needs
 
 five-requires-5 : tie.Need-five-requires-5
-five-requires-5 c κs = search needs
+five-requires-5 c κs =
+    let w = c .before .before .before .before .before .before .before .pre in
+    (c .before .before .before .before .places-of .ensures (omega (arith, w)) .4, omega (arith, w))
 
 mul-result : tie.Need-mul-result
 mul-result c = search needs

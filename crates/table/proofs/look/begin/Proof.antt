@@ -1,9 +1,9 @@
--- `places::begin` is the definition's two cases. Assumes nothing.
+-- `look::begin` is the definition's two cases. Assumes nothing.
 use borrow.Author.Needs.{needs}
 use borrow.Author.Tests.{lt-ltb, le-ltb}
-use Rattle.corner.specs.Search.{begun}
-use Rattle.corner.proofs.places.begin.Statement.{statement}
-use Rattle.corner.proofs.places.begin.Tie as tie
+use Rattle.table.specs.Search.{begun}
+use Rattle.table.proofs.look.begin.Statement.{statement}
+use Rattle.table.proofs.look.begin.Tie as tie
 
 sub-seen : tie.Need-sub-seen
 sub-seen c = search needs

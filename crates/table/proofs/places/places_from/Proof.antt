@@ -1,10 +1,10 @@
--- `places::places_of`: with each look each place is known twice as well. Assumes nothing.
+-- `places::places_from`: with each look each place is known twice as well. Assumes nothing.
 use native.Mathlib.Omega.{arith}
 use lib.Pow.{pow-pos}
 use borrow.Author.Needs.{needs}
-use Rattle.corner.proofs.SearchLaws.{Searches, searches-first, searches-room, searches-last-room, searches-next, searches-last}
-use Rattle.corner.proofs.places.places_of.Statement.{statement}
-use Rattle.corner.proofs.places.places_of.Tie as tie
+use Rattle.table.proofs.SearchLaws.{Searches, searches-first, searches-room, searches-last-room, searches-next, searches-last}
+use Rattle.table.proofs.places.places_from.Statement.{statement}
+use Rattle.table.proofs.places.places_from.Tie as tie
 
 abbrev Inv-loop : tie.InvT-loop
 Inv-loop t low s₀ f₀ s f = Searches t low (f .a) (f .b) (f .c) (f .d) (f .e) s
@@ -68,8 +68,8 @@ returns c =
     let g = c .look-all2 .result in
     searches-last (a .t .now) (a .low) (f .a) (f .b) (f .c) (f .d) (f .e) (g .a) (g .b) (g .c) (g .d) (g .e) (l .s) (l .inv) (c .before .loop-test .left) (c .look-all2 .ensures)
 
-pub places-of-spec : {M : Type 1} → statement M
-places-of-spec =
+pub places-from-spec : {M : Type 1} → statement M
+places-from-spec =
     tie.close
     (tie.spec
     Inv-loop

@@ -1,8 +1,8 @@
--- `places::exponent`: the place of the highest digit. Assumes nothing.
+-- `look::exponent`: the place of the highest digit. Assumes nothing.
 use native.Mathlib.Omega.{arith}
-use Rattle.corner.proofs.SearchLaws.{exponent-is}
-use Rattle.corner.proofs.places.exponent.Statement.{statement}
-use Rattle.corner.proofs.places.exponent.Tie as tie
+use Rattle.table.proofs.SearchLaws.{exponent-is}
+use Rattle.table.proofs.look.exponent.Statement.{statement}
+use Rattle.table.proofs.look.exponent.Tie as tie
 
 cast-result : tie.Need-cast-result
 cast-result c = let z = exponent-is (c .args .n) (c .pre) (c .fits .n .fits) in omega arith

@@ -1,12 +1,12 @@
--- `places::look` is the definition's step, the test taken as a number. Assumes nothing.
+-- `look::look` is the definition's step, the test taken as a number. Assumes nothing.
 use Prim.Native.Nat.{_^_}
 use native.Mathlib.Omega.{arith}
 use mathlib.Core.Path.{_≡_}
 use borrow.Author.Needs.{needs}
 use lib.Pow.{pow-pos}
-use Rattle.corner.proofs.SearchLaws.{look-is, looked-le}
-use Rattle.corner.proofs.places.look.Statement.{statement}
-use Rattle.corner.proofs.places.look.Tie as tie
+use Rattle.table.proofs.SearchLaws.{look-is, looked-le}
+use Rattle.table.proofs.look.look.Statement.{statement}
+use Rattle.table.proofs.look.look.Tie as tie
 
 power-requires : tie.Need-power-requires
 power-requires c κs = search needs

@@ -1,8 +1,8 @@
--- `places::power`: 2 ^ s is below 2 ^ 64. Assumes nothing.
+-- `look::power`: 2 ^ s is below 2 ^ 64. Assumes nothing.
 use borrow.Author.Needs.{needs}
-use Rattle.corner.proofs.SearchLaws.{power-is}
-use Rattle.corner.proofs.places.power.Statement.{statement}
-use Rattle.corner.proofs.places.power.Tie as tie
+use Rattle.table.proofs.SearchLaws.{power-is}
+use Rattle.table.proofs.look.power.Statement.{statement}
+use Rattle.table.proofs.look.power.Tie as tie
 
 shl-result : tie.Need-shl-result
 shl-result c = search needs

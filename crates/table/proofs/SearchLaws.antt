@@ -1,5 +1,5 @@
 -- A search in an ascending table by powers of two. Assumes nothing.
-use Prim.Native.Nat.{ℕ, suc, _+_, _-_, _*_, _%_, _^_, _≤_, _<_}
+use Prim.Native.Nat.{ℕ, suc, _+_, _-_, _*_, _%_, _^_, _≤_, _<_, zero-le}
 use native.Mathlib.Nat.{mod-eq-of-lt, pow-suc}
 use native.Mathlib.Numerals.{add-one}
 use native.Mathlib.Omega.{arith}
@@ -13,9 +13,9 @@ use lib.Pow.{pow-lt, pow-mono, pow-pos}
 use mir.Val.{boolByte}
 use borrow.Author.Tests.{ltb-false, ltb-true}
 use Rattle.model.specs.Cell.{W}
 use Rattle.table.specs.Tables.{rank}
 use Rattle.table.proofs.RankLaws.{Between, rank-above, rank-below, rank-le}
-use Rattle.corner.specs.Search.{Each, Looked, Placed, begun, looked}
+use Rattle.table.specs.Search.{Each, Looked, Placed, begun, looked}
 
 -- ---- powers of two as the code makes them
 pub power-is : (s : ℕ) → s < 64 → 1 * 2 ^ s % 2 ^ 64 ≡ 2 ^ s
@@ -96,6 +96,22 @@ within-last k l at s z b =
     let n = looked-between k l at 1 1 (omega arith) (omega arith) (omega arith) o in
     record { inside = omega (arith, n .inside); place = λ a. omega (arith, n .near a) }
 
+-- what a look reads is there
+pub within-room : (k : ℕ) (l : List ℕ) (at s : ℕ) → 0 < s → Within k l at s → at + 2 ^ (s - 1) ≤ length l
+within-room k l at s p b =
+    let m : 2 ^ (s - 1) ≤ 2 ^ s = pow-mono (omega arith) in
+    omega (arith, b .inside)
+
+pub within-last-room : (k : ℕ) (l : List ℕ) (at s : ℕ) → s ≤ 0 → Within k l at s → at + 2 ^ 0 ≤ length l
+within-last-room k l at s z b =
+    let o : s ≡ 0 = omega arith in
+    let w : Within k l at 0 = rw o at b in
+    omega (arith, w .inside)
+
+-- in an empty table
+pub placed-none : (l : List ℕ) → length l ≡ 0 → (k : ℕ) → Placed l k 0
+placed-none l e k = record { inside = zero-le; place = λ a. omega (arith, rank-le k l) }
+
 -- ---- five searches at once
 each-map : (P Q : ℕ → ℕ → Type 0) (low a b c d e : ℕ) → ((k at : ℕ) → P k at → Q k at) → Each P low a b c d e → Each Q low a b c d e
 each-map P Q low a b c d e f x = (f low a (x .0), f (low + W) b (x .1), f (low + 2 * W) c (x .2), f (low + 3 * W) d (x .3), f (low + 4 * W) e (x .4))
@@ -111,16 +127,11 @@ searches-first l low a b c d e s p few h j q x = record {
   each = each-map (λ k at. at ≡ begun l p k) (λ k at. Within k l at s) low a b c d e (λ k at y. rw (y, q) (within-first k l s h j)) x;
 }
 
--- what a look reads is there
 pub searches-room : (l : List ℕ) (low a b c d e s : ℕ) → 0 < s → Searches l low a b c d e s → Each (λ k at. at + 2 ^ (s - 1) ≤ length l) low a b c d e
-searches-room l low a b c d e s p x =
-    let m : 2 ^ (s - 1) ≤ 2 ^ s = pow-mono (omega arith) in
-    each-map (λ k at. Within k l at s) (λ k at. at + 2 ^ (s - 1) ≤ length l) low a b c d e (λ k at y. omega (arith, y .inside)) (x .each)
+searches-room l low a b c d e s p x = each-map (λ k at. Within k l at s) (λ k at. at + 2 ^ (s - 1) ≤ length l) low a b c d e (λ k at y. within-room k l at s p y) (x .each)
 
 pub searches-last-room : (l : List ℕ) (low a b c d e s : ℕ) → s ≤ 0 → Searches l low a b c d e s → Each (λ k at. at + 2 ^ 0 ≤ length l) low a b c d e
-searches-last-room l low a b c d e s z x =
-    let o : s ≡ 0 = omega arith in
-    each-map (λ k at. Within k l at 0) (λ k at. at + 2 ^ 0 ≤ length l) low a b c d e (λ k at y. omega (arith, y .inside)) (rw o at (x .each))
+searches-last-room l low a b c d e s z x = each-map (λ k at. Within k l at s) (λ k at. at + 2 ^ 0 ≤ length l) low a b c d e (λ k at y. within-last-room k l at s z y) (x .each)
 
 abbrev LookedAll : List ℕ → ℕ → ℕ → ℕ → ℕ → ℕ → ℕ → ℕ → ℕ → ℕ → ℕ → ℕ → ℕ → Type 0
 LookedAll l h low a b c d e a′ b′ c′ d′ e′ =

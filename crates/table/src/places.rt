@@ -1,53 +1,21 @@
-// The same place in five neighbouring columns looked for in a table at once. No branch hangs on what is seen, and the five
-// searches do not wait for each other.
+// The same place in five neighbouring columns looked for in a table at once: the five searches do not wait for each other.
+use crate::look::begin;
+use crate::look::exponent;
+use crate::look::look;
+use crate::look::power;
 ghost use mathlib.Core.Path.{_≡_};
 ghost use Prim.Native.Nat.{_+_, _*_, _^_, _<_, _≤_};
 ghost use lib.ListN.{length};
 ghost use Rattle.model.specs.Cell.{W};
-ghost use Rattle.corner.specs.Search.{Each, Looked, Placed, begun, looked};
+ghost use Rattle.table.specs.Search.{Each, Looked, Placed, begun};
 
 // One place in each of five columns.
-pub(crate) struct Places {
+pub struct Places {
     pub a: usize,
     pub b: usize,
     pub c: usize,
     pub d: usize,
     pub e: usize,
-}
-
-fn power(s: u64) -> usize
-    requires { ⌜ s < 64 ⌝ }
-    ensures { λ r. ⌜ r ≡ 2 ^ s ⌝ }
-{
-    1 << s
-}
-
-// The exponent of the greatest power of two that is at most n.
-fn exponent(n: usize) -> u64
-    requires { ⌜ 0 < n ⌝ }
-    ensures { λ r. ⌜ (r < 64) × (2 ^ r ≤ n) × (n < 2 ^ (r + 1)) ⌝ }
-{
-    63 - u64::leading_zeros(n as u64) as u64
-}
-
-// Where a search begins: the place of k is at most p places further.
-fn begin(t: &[u64], p: usize, k: u64) -> usize
-    requires { ⌜ (0 < p) × (p ≤ length (now t)) ⌝ }
-    ensures { λ r. ⌜ r ≡ begun (now (t .entry)) p k ⌝ }
-{
-    let seen = t[p - 1];
-    if seen < k { t.len() - p } else { 0 }
-}
-
-// One look: where the place of k was at most 2 * 2^s places further, it is at most 2^s places further then.
-fn look(t: &[u64], at: usize, s: u64, k: u64) -> usize
-    requires { ⌜ (s < 64) × (at + 2 ^ s ≤ length (now t)) ⌝ }
-    ensures { λ r. ⌜ r ≡ looked (now (t .entry)) at (2 ^ s) k ⌝ }
-{
-    let last = at + power(s) - 1;
-    let seen = t[last];
-    let less = (seen < k) as usize;
-    at + (less << s)
 }
 
 // The five searches begin.
@@ -79,8 +47,7 @@ fn look_all(t: &[u64], f: Places, s: u64, low: u64) -> Places
     }
 }
 
-// The places of the keys low, low + 2^32, .. in the table.
-pub(crate) fn places_of(t: &[u64], low: u64) -> Places
+fn places_from(t: &[u64], low: u64) -> Places
     requires { ⌜ (low + 4 * W < 2 ^ 64) × (0 < length (now t)) ⌝ }
     ensures { λ r. ⌜ Each (Placed (now (t .entry))) low (r .a) (r .b) (r .c) (r .d) (r .e) ⌝ }
 {
@@ -91,4 +58,29 @@ pub(crate) fn places_of(t: &[u64], low: u64) -> Places
         f = look_all(t, f, s, low);
     }
     look_all(t, f, 0, low)
+}
+
+// The places of the keys low, low + 2^32, .. in the table, if all of them are keys.
+pub fn places_of(t: &[u64], low: u64) -> Places
+    ensures { λ r. ⌜ (low + 4 * W < 2 ^ 64 → Each (Placed (now (t .entry))) low (r .a) (r .b) (r .c) (r .d) (r .e)) ⌝ }
+{
+    if t.len() == 0 {
+        return Places {
+            a: 0,
+            b: 0,
+            c: 0,
+            d: 0,
+            e: 0,
+        };
+    }
+    if 18446744056529682432 <= low {
+        return Places {
+            a: 0,
+            b: 0,
+            c: 0,
+            d: 0,
+            e: 0,
+        };
+    }
+    places_from(t, low)
 }
