@@ -27,7 +27,7 @@ write-order : (k : ℕ) (v : Bool) (C : List ℕ) → AscL 0 C → AscL 0 (write
 write-order k true C a = ascL-add 0 k C zero-le a
 write-order k false C a = ascL-cut 0 k C a
 
-write-word : (x k : ℕ) (v : Bool) (C : List ℕ) → has x (write k v C) ≡ cond (eqb x k) v (has x C)
+pub write-word : (x k : ℕ) (v : Bool) (C : List ℕ) → has x (write k v C) ≡ cond (eqb x k) v (has x C)
 write-word x k v C = go (ℕ-discrete x k)
   where
     go : Dec (x ≡ k) → has x (write k v C) ≡ cond (eqb x k) v (has x C)

@@ -31,17 +31,34 @@ or-true-4 false true y = tt
 or-true-4 false false true = tt
 or-true-4 false false false = tt
 
+pub bit-any : (d : Dir) (b : Bits) → bit d b ≡ true → T (anyBit b)
+bit-any SW b e = rw e tt
+bit-any SE b e = rw e (or-true-2 (b .sw) (b .nw) (b .ne))
+bit-any NW b e = rw e (or-true-3 (b .sw) (b .se) (b .ne))
+bit-any NE b e = rw e (or-true-4 (b .sw) (b .se) (b .nw))
+
+pub bit-same : (d : Dir) (v : Bool) (b : Bits) → bit d (setBit d v b) ≡ v
+bit-same SW v b = refl
+bit-same SE v b = refl
+bit-same NW v b = refl
+bit-same NE v b = refl
+
 pub set-any : (d : Dir) (b : Bits) → T (anyBit (setBit d true b))
-set-any SW b = tt
-set-any SE b = or-true-2 (b .sw) (b .nw) (b .ne)
-set-any NW b = or-true-3 (b .sw) (b .se) (b .ne)
-set-any NE b = or-true-4 (b .sw) (b .se) (b .nw)
+set-any d b = bit-any d (setBit d true b) (bit-same d true b)
 
 pub clear-zero : (d : Dir) → setBit d false zero4 ≡ zero4
 clear-zero SW = refl
 clear-zero SE = refl
 clear-zero NW = refl
 clear-zero NE = refl
+
+-- to clear a bit brings none
+pub clear-any : (d : Dir) (b : Bits) → T (anyBit (setBit d false b)) → T (anyBit b)
+clear-any d b t = go (anyBit b) refl
+  where
+    go : (s : Bool) → anyBit b ≡ s → T s
+    go true e = tt
+    go false e = let u : T (anyBit zero4) = rw (no-bit b e, clear-zero d) at t in u
 
 -- ---- one bit of a status in which one was put
 abbrev code : Dir → ℕ

@@ -11,13 +11,14 @@ use mathlib.Core.List.{List, [], _∷_}
 use lib.Dec.{T, eqb, eqb→eq, eqb-refl, lit<}
 use lib.ListN.{length, getD}
 use Rattle.ieee.proofs.Tools.{or-cases}
-use Rattle.model.specs.Maps.{keys, has}
+use Rattle.model.specs.Maps.{keys, has, Asc, AscL}
 use Rattle.model.specs.Cell.{W, Dir, SW, SE, NW, NE, move, sideX, sideY, around}
 use Rattle.model.specs.Corner.{Bits, zero4, anyBit, sameBits, corner, statusOf, cornersAmong, cornerCells}
 use Rattle.model.specs.Batch.{Batch, altered, met, cornerChanges}
 use Rattle.model.specs.Limits.{maxCoordinate}
 use Rattle.model.specs.Good.{Inside}
 use Rattle.model.proofs.MapLaws.{true→T, or-left, or-right, has-append, decT, beq-same}
+use Rattle.model.proofs.OrderLaws.{asc-down}
 use Rattle.model.proofs.BitLaws.{no-bit}
 
 -- far enough from the lower border of the keys for a shift of 64, and for a neighbour's too
@@ -27,7 +28,7 @@ Safe k = 65 * W ≤ k
 abbrev Deep : ℕ → Type 0
 Deep k = 70 * W ≤ k
 
-pub inside-safe : (k : ℕ) → Inside maxCoordinate k → Safe k
+inside-safe : (k : ℕ) → Inside maxCoordinate k → Safe k
 inside-safe k h = omega arith
 
 inside-deep : (k : ℕ) → Inside maxCoordinate k → Deep k
@@ -208,14 +209,27 @@ pub free-status : (C : List ℕ) (b : ℕ) → has b C ≡ false → statusOf C 
 unfolding statusOf corner
 free-status C b e = rw e refl
 
-pub corners-fits : (C l : List ℕ) → ((x : ℕ) → T (has x l) → Safe x) → Fits C (cornersAmong C l)
+among-fits : (C l : List ℕ) → ((x : ℕ) → T (has x l) → Safe x) → Fits C (cornersAmong C l)
 unfolding cornersAmong has
-corners-fits C [] f = tt
-corners-fits C (k ∷ l) f = go (anyBit (statusOf C k)) (corners-fits C l (λ x t. f x (or-right (eqb x k) (has x l) t)))
+among-fits C [] f = tt
+among-fits C (k ∷ l) f = go (anyBit (statusOf C k)) (among-fits C l (λ x t. f x (or-right (eqb x k) (has x l) t)))
   where
     go : (s : Bool) → Fits C (cornersAmong C l) → Fits C (cond s ((k, statusOf C k) ∷ cornersAmong C l) (cornersAmong C l))
     go true ih = (refl, (f k (or-left (eqb k k) (has k l) (eqb-refl k)), ih))
     go false ih = ih
+
+pub corners-fits : (C : List ℕ) → ((k : ℕ) → T (has k C) → Inside maxCoordinate k) → Fits C (cornerCells C)
+corners-fits C inside = among-fits C C (λ x u. inside-safe x (inside x u))
+
+-- they ascend as the cells do
+pub corners-asc : (C : List ℕ) (lo : ℕ) (l : List ℕ) → AscL lo l → Asc lo (cornersAmong C l)
+unfolding cornersAmong
+corners-asc C lo [] a = tt
+corners-asc C lo (k ∷ l) a = go (anyBit (statusOf C k)) (corners-asc C (suc k) l (a .1))
+  where
+    go : (s : Bool) → Asc (suc k) (cornersAmong C l) → Asc lo (cond s ((k, statusOf C k) ∷ cornersAmong C l) (cornersAmong C l))
+    go true ih = (a .0, ih)
+    go false ih = asc-down lo (suc k) (cornersAmong C l) (let x = a .0 in omega arith) ih
 
 corners-in : (C l : List ℕ) (b : ℕ) → T (has b l) → T (has b (keys (cornersAmong C l))) ⊎ (statusOf C b ≡ zero4)
 unfolding cornersAmong has keys

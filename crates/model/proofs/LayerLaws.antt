@@ -15,11 +15,12 @@ use Rattle.model.specs.Layer.{Tests, Layer, Point, Points, Edges, Work, 
 use Rattle.model.specs.Good.{bitsIn, want, Joined, Inside, Good}
 use Rattle.model.specs.ClosedForm.{statusRun, ahead, newBlock, orElse}
 use Rattle.model.specs.Limits.{maxShift, maxCoordinate}
+use Rattle.model.specs.Map.{emptyLayer}
 use Rattle.model.proofs.MapLaws.{T→true, or-left, or-right, keys-has}
 use Rattle.model.proofs.BitLaws.{ext-bits}
 use Rattle.model.proofs.OrderLaws.{asc-within}
 use Rattle.model.proofs.BatchLaws.{freed, Placed, cells-kept, cells-freed, cells-placed, cells-order, confirmed-keys}
-use Rattle.model.proofs.CornerLaws.{inside-safe, Fits, changes-fit, changes-has, corners-fits, corners-has}
+use Rattle.model.proofs.CornerLaws.{Fits, changes-fit, changes-has, corners-fits, corners-has}
 use Rattle.model.proofs.EdgeLaws.{Twins, some-cond, map-some, under}
 use Rattle.model.proofs.Phase1Status.{Right, marks-right}
 use Rattle.model.proofs.Phase1Points.{Real, marks-status, marks-asc}
@@ -210,11 +211,13 @@ change-good t law C l g b asc inside =
         (changes-has C C′ ch kept insideC (move (t .shift) (opp D) k))
 
 -- ---- a fresh build
+pub empty-inv : (r : Float) → Inv (started (emptyLayer r))
+unfolding bitsIn get edge line
+empty-inv r = record { real = λ k. refl; twins = λ p q. refl; sound = λ p q u. absurd u; full = λ p q J. absurd (J .one) }
+
 pub rebuild-good : (t : Tests) → Lawful t → (C : List ℕ) → AscL 0 C → ((k : ℕ) → T (has k C) → Inside maxCoordinate k) → (r : Float)
-    → Good (t .shift) C (update t C [] (cornerCells C) (record { radius = r; points = []; edges = [] }))
+    → Good (t .shift) C (update t C [] (cornerCells C) (emptyLayer r))
 unfolding bitsIn get edge line
 rebuild-good t law C ord inside r =
-    update-good t C [] (cornerCells C) (record { radius = r; points = []; edges = [] })
-    (record { real = λ k. refl; twins = λ p q. refl; sound = λ p q u. absurd u; full = λ p q J. absurd (J .one) }) tt law tt
-    (λ k p e. absurd (Option·none-ne-some p e)) (λ p q v e. absurd (Option·none-ne-some v e)) (corners-fits C C (λ x u. inside-safe x (inside x u)))
-    (λ D k. ⊎-elim (λ u. inr u) (λ q. inl (ap (bit D) (sym q))) (corners-has C (move (t .shift) (opp D) k))) ord inside
+    update-good t C [] (cornerCells C) (emptyLayer r) (empty-inv r) tt law tt (λ k p e. absurd (Option·none-ne-some p e)) (λ p q v e. absurd (Option·none-ne-some v e))
+    (corners-fits C inside) (λ D k. ⊎-elim (λ u. inr u) (λ q. inl (ap (bit D) (sym q))) (corners-has C (move (t .shift) (opp D) k))) ord inside

@@ -25,6 +25,7 @@ pub mod BlockLaws
 pub mod Blocks
 pub mod SingleLaws
 pub mod Phase1Once
+pub mod StandLaws
 pub mod ClosedForm
 pub mod ListingLaws
 pub mod AnswerLaws

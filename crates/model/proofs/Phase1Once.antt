@@ -1,28 +1,27 @@
--- Phase 1, each bit marked at most once: so it is in a batch, and what follows for the points on the way and for the old pairs. Assumes nothing.
+-- Phase 1, each bit marked at most once: so it is where each cell is listed once, as a batch lists them; and what follows for a bit and for the old pairs. Assumes nothing.
 use Prim.Native.Nat.{ℕ, _≤_}
-use native.Mathlib.Decide.{ℕ-discrete}
 use mathlib.Core.Path.{_≡_, refl, sym, ap, _∙_, subst}
-use mathlib.Core.Logic.{_⊎_, inl, inr, ⊎-elim}
+use mathlib.Core.Logic.{⊎-elim}
 use mathlib.Core.Bool.{Bool, true, false, not, cond, _||_, _&&_, true≢false}
-use mathlib.Core.List.{List, [], _∷_, _++_}
+use mathlib.Core.List.{List, [], _∷_}
 use mathlib.Core.Option.{Option, none, some}
 use lib.Dec.{T, eqb, eqb→eq, eqb-refl}
 use lib.Ieee.Fits.{and-l, and-r}
 use Rattle.ieee.proofs.Tools.{or-cases}
 use Rattle.model.specs.Maps.{keys, isSome, has}
 use Rattle.model.specs.Cell.{Dir, SW, SE, NW, NE, col, row, move}
-use Rattle.model.specs.Corner.{Bits, zero4, bit, anyBit, sameBits, statusOf, quadrant, sees}
+use Rattle.model.specs.Corner.{Bits, bit, anyBit, sameBits, statusOf, quadrant, sees}
 use Rattle.model.specs.Batch.{Batch, altered, met, cornerChanges}
 use Rattle.model.specs.Layer.{Tests, Work, Mark, marks, edge, mark, markAll}
 use Rattle.model.specs.Good.{bitsIn, Joined}
 use Rattle.model.specs.Limits.{maxShift}
 use Rattle.model.specs.ClosedForm.{statusAfter, statusRun, Untouched, Once, stays, joins}
 use Rattle.model.proofs.MapLaws.{or-left, or-right, T→true, true→T, notT→false}
-use Rattle.model.proofs.BitLaws.{no-bit, sameDir, ext-bits}
+use Rattle.model.proofs.BitLaws.{sameDir}
 use Rattle.model.proofs.SingleLaws.{Single}
 use Rattle.model.proofs.CornerLaws.{Safe, Fits}
 use Rattle.model.proofs.EdgeLaws.{only}
-use Rattle.model.proofs.Phase1Status.{to-back, after-bit, run-append}
+use Rattle.model.proofs.Phase1Status.{to-back, after-bit}
 use Rattle.model.proofs.Phase1Points.{mark-status, stays-any}
 use Rattle.model.proofs.Phase1Pairs.{Inv, joined-map, joined-joins, mark-pair, marked}
 
@@ -93,13 +92,6 @@ no-dir D d e q = same d (sym (ap (λ (z : Dir). sameDir z d) q) ∙ e)
     same NW e = true≢false e
     same NE e = true≢false e
 
-dir-dec : (D d : Dir) → Dec (D ≡ d)
-dir-dec D d = go (sameDir D d) refl
-  where
-    go : (s : Bool) → sameDir D d ≡ s → Dec (D ≡ d)
-    go true e = yes (same-dir D d (true→T (sameDir D d) e))
-    go false e = no (no-dir D d e)
-
 -- ---- each bit is marked once
 move-apart : (s : ℕ) (D : Dir) (b c : ℕ) → s ≤ maxShift → Safe b → Safe c → move s D b ≡ move s D c → b ≡ c
 move-apart s D b c h f g e = to-back s D b (move s D c) h f (sym e) ∙ sym (to-back s D c (move s D c) h g refl)
@@ -134,7 +126,7 @@ marks-once s C (c ∷ cs) h f u = (
 
 -- ---- one bit
 -- A bit that no mark concerns stays.
-untouched-bit : (ms : List Mark) (d : Dir) (k : ℕ) (b : Bits) → Untouched d k ms → bit d (statusRun ms k b) ≡ bit d b
+pub untouched-bit : (ms : List Mark) (d : Dir) (k : ℕ) (b : Bits) → Untouched d k ms → bit d (statusRun ms k b) ≡ bit d b
 unfolding statusRun
 untouched-bit [] d k b u = refl
 untouched-bit (m ∷ ms) d k b u = untouched-bit ms d k (statusAfter m k b) (u .1) ∙ after-bit m k b d ∙ rw miss refl
@@ -143,44 +135,6 @@ untouched-bit (m ∷ ms) d k b u = untouched-bit ms d k (statusAfter m k b) (u .
     miss =
         notT→false (eqb k (m .at) && sameDir d (m .dir))
         (λ t. u .0 (eqb→eq k (m .at) (and-l (eqb k (m .at)) (sameDir d (m .dir)) t)) (same-dir d (m .dir) (and-r (eqb k (m .at)) (sameDir d (m .dir)) t)))
-
--- ---- on the way
-untouched-after : (ms ns : List Mark) (d : Dir) (k : ℕ) → Untouched d k (ms ++ ns) → Untouched d k ns
-untouched-after [] ns d k u = u
-untouched-after (m ∷ ms) ns d k u = untouched-after ms ns d k (u .1)
-
--- a bit is marked before, or after, or not at all
-halves : (ms ns : List Mark) → Once (ms ++ ns) → (d : Dir) (k : ℕ) → Untouched d k ms ⊎ Untouched d k ns
-halves [] ns o d k = inl tt
-halves (m ∷ ms) ns o d k = go (ℕ-discrete k (m .at)) (dir-dec d (m .dir)) (halves ms ns (o .1) d k)
-  where
-    out : (k ≡ m .at → d ≡ m .dir → ⊥) → Untouched d k ms ⊎ Untouched d k ns → Untouched d k (m ∷ ms) ⊎ Untouched d k ns
-    out f (inl u) = inl (f, u)
-    out f (inr u) = inr u
-
-    go : Dec (k ≡ m .at) → Dec (d ≡ m .dir) → Untouched d k ms ⊎ Untouched d k ns → Untouched d k (m ∷ ms) ⊎ Untouched d k ns
-    go (yes x) (yes y) r = inr (untouched-after ms ns d k (rw (x, y) (o .0)))
-    go (yes x) (no y) r = out (λ a b. y b) r
-    go (no x) y r = out (λ a b. x a) r
-
--- A point that is there on the way was there before, or is there afterwards.
-pub between : (ms ns : List Mark) → Once (ms ++ ns) → (k : ℕ) (b : Bits) → T (anyBit (statusRun ms k b)) → T (anyBit b) ⊎ T (anyBit (statusRun (ms ++ ns) k b))
-between ms ns o k b t = go (anyBit b) refl (anyBit end) refl
-  where
-    mid : Bits
-    mid = statusRun ms k b
-
-    end : Bits
-    end = statusRun (ms ++ ns) k b
-
-    at : anyBit b ≡ false → anyBit end ≡ false → (d : Dir) → Untouched d k ms ⊎ Untouched d k ns → bit d mid ≡ bit d zero4
-    at e f d (inl u) = untouched-bit ms d k b u ∙ ap (bit d) (no-bit b e)
-    at e f d (inr u) = sym (untouched-bit ns d k mid u) ∙ ap (bit d) (sym (run-append ms ns k b) ∙ no-bit end f)
-
-    go : (x : Bool) → anyBit b ≡ x → (y : Bool) → anyBit end ≡ y → T (anyBit b) ⊎ T (anyBit end)
-    go true e y f = inl (true→T (anyBit b) e)
-    go false e true f = inr (true→T (anyBit end) f)
-    go false e false f = absurd (let z : T (anyBit zero4) = rw (ext-bits mid zero4 (λ d. at e f d (halves ms ns o d k))) at t in z)
 
 -- ---- what the marks leave of the old pairs
 -- who sees p before a mark and in the end sees p after it: its bit is not marked again

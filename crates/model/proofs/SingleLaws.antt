@@ -1,16 +1,16 @@
 -- Lists that name nothing twice, and their lengths. Assumes nothing.
 use Prim.Native.Nat.{ℕ, suc, _+_, _≤_, _<_, zero-le}
 use native.Mathlib.Omega.{arith}
-use mathlib.Core.Path.{_≡_, refl, ap}
+use mathlib.Core.Path.{_≡_, refl, ap, subst}
 use mathlib.Core.Logic.{_⊎_, ⊎-elim}
 use mathlib.Core.Bool.{Bool, true, false, cond, _||_}
 use mathlib.Core.List.{List, [], _∷_, _++_}
 use lib.Dec.{T, eqb, eqb-refl}
 use lib.ListN.{length, length-append}
 use Rattle.ieee.proofs.Tools.{lt-or-ge}
-use Rattle.model.specs.Maps.{get, keys, isSome, has, cut, Asc}
-use Rattle.model.proofs.MapLaws.{or-left, or-right, has-cut-other, has-append, keys-has}
-use Rattle.model.proofs.OrderLaws.{asc-get}
+use Rattle.model.specs.Maps.{get, keys, isSome, has, cut, Asc, AscL}
+use Rattle.model.proofs.MapLaws.{or-left, or-right, has-cut-other, has-append, keys-has, units, keys-units}
+use Rattle.model.proofs.OrderLaws.{asc-get, asc-units}
 
 abbrev pub Single : List ℕ → Type 0
 Single [] = Unit {0}
@@ -28,6 +28,9 @@ pub asc-single : {A : Type 0} (lo : ℕ) (m : List (ℕ × A)) → Asc lo m → 
 unfolding keys
 asc-single lo [] a = tt
 asc-single lo (e ∷ m) a = (asc-miss (suc (e .0)) (e .0) m (a .1) (omega arith), asc-single (suc (e .0)) m (a .1))
+
+pub ascL-single : (lo : ℕ) (l : List ℕ) → AscL lo l → Single l
+ascL-single lo l a = subst Single (keys-units l) (asc-single lo (units l) (asc-units lo l a))
 
 pub length-keys : {A : Type 0} (m : List (ℕ × A)) → length (keys m) ≡ length m
 unfolding keys

@@ -1,16 +1,16 @@
--- The closed form of an update: the points and pairs that a batch leaves, told from its marks and the old layer (`Layer.antt`'s four phases are what is believed; proofs/ClosedForm.antt shows that they agree). Definitions only.
-use Prim.Native.Nat.{ℕ}
+-- The closed form of an update: the points and pairs that it leaves, told from the cells afterwards, the changes, the marks and the old layer (`Layer.antt`'s four phases are what is believed; proofs/ClosedForm.antt shows that they agree). Definitions only.
+use Prim.Native.Nat.{ℕ, _<_}
 use mathlib.Core.Path.{_≡_}
-use mathlib.Core.Bool.{Bool, true, false, not, cond, _&&_}
+use mathlib.Core.Bool.{Bool, true, false, not, cond, _&&_, _||_}
 use mathlib.Core.List.{List, [], _∷_}
 use mathlib.Core.Option.{Option, none, some}
 use lib.Dec.{eqb}
-use Rattle.model.specs.Maps.{get}
+use Rattle.model.specs.Maps.{get, add}
 use Rattle.model.specs.Cell.{Dir}
 use Rattle.model.specs.Corner.{Bits, setBit, anyBit, sees}
 use Rattle.model.specs.Batch.{Batch, cellsAfter, confirmed, cornerChanges}
 use Rattle.model.specs.Layer.{Tests, Point, Points, Mark, marks, pointAfter, edgeRun, Layer, edge}
-use Rattle.model.specs.Good.{bitsIn, want}
+use Rattle.model.specs.Good.{bitsIn, want, Good}
 
 -- the marks of the batch b on the cells C, for a layer of shift s
 abbrev pub marksIn : ℕ → List ℕ → Batch → List Mark
@@ -82,18 +82,17 @@ ahead p q (k ∷ ks) = let r = ahead p q ks in cond (eqb k p) true (cond (eqb k 
 unfoldable pub newBlock : Tests → List ℕ → List ℕ → ℕ → ℕ → Option ℕ
 newBlock t C qs p q = let x = t .sweep C p q .cell in let y = t .sweep C q p .cell in cond (ahead p q qs) x y
 
--- ---- the whole, for the batch b on the cells C and the layer l
+-- ---- the whole: the cells C′ afterwards, the confirmed changes ch, the marks ms, the old layer l
 -- what blocks point k, which o blocked, after the changes
 unfoldable pub pointRun : Tests → List ℕ → ℕ → Batch → Option ℕ → Option ℕ
 pointRun t C k [] o = o
 pointRun t C k (e ∷ ch) o = pointRun t C k ch (pointAfter t C k (e .0) (e .1) o)
 
 -- a point stands where the cells give a bit, with the status that they give
-unfoldable pub closedPoint : Tests → List ℕ → Batch → Layer → ℕ → Option Point
-closedPoint t C b l k =
-    let C′ = cellsAfter b C in
-    let start = startBlock t C′ (marksIn (t .shift) C b) l k in
-    let p : Point = record { bits = want (t .shift) C′ k; block = pointRun t C′ k (confirmed b C) start } in
+unfoldable pub closedPoint : Tests → List ℕ → Batch → List Mark → Layer → ℕ → Option Point
+closedPoint t C′ ch ms l k =
+    let start = startBlock t C′ ms l k in
+    let p : Point = record { bits = want (t .shift) C′ k; block = pointRun t C′ k ch start } in
     cond (anyBit (want (t .shift) C′ k)) (some p) none
 
 -- under the statuses B, p and q have a bit and each is in the other's visible quadrant
@@ -106,10 +105,27 @@ orElse none o = o
 orElse (some v) o = v
 
 -- a pair p < q stands where the statuses that the cells give join its ends: a survivor with its blocker, a new one with its sweep's, after the changes
-unfoldable pub closedPair : Tests → List ℕ → Batch → Layer → ℕ → ℕ → Option (Option ℕ)
-closedPair t C b l p q =
-    let C′ = cellsAfter b C in
-    let ms = marksIn (t .shift) C b in
+unfoldable pub closedPair : Tests → List ℕ → Batch → List Mark → Layer → ℕ → ℕ → Option (Option ℕ)
+closedPair t C′ ch ms l p q =
     let start = orElse (survivor ms l p q) (newBlock t C′ (queueRun ms (bitsIn (l .points))) p q) in
-    let v = some (edgeRun t C′ p q (confirmed b C) start) in
+    let v = some (edgeRun t C′ p q ch start) in
     cond (joins (want (t .shift) C′) p q) v none
+
+-- what an update of the layer l leaves: l′, told from the cells afterwards, the changes and the marks
+pub record Closed (t : Tests) (C′ : List ℕ) (ch : Batch) (ms : List Mark) (l l′ : Layer) : Type 0 where
+  pub good : Good (t .shift) C′ l′
+  pub once : Once ms
+  pub status : (k : ℕ) → statusRun ms k (bitsIn (l .points) k) ≡ want (t .shift) C′ k
+  pub point : (k : ℕ) → get k (l′ .points) ≡ closedPoint t C′ ch ms l k
+  pub pair : (p q : ℕ) → p < q → edge p q (l′ .edges) ≡ closedPair t C′ ch ms l p q
+
+-- ---- what stands on the way
+-- a mark gives k a bit
+unfoldable pub brings : List Mark → ℕ → Bool
+brings [] k = false
+brings (m ∷ ms) k = (eqb k (m .at) && m .on) || brings ms k
+
+-- the points that stand at some time while the marks are made: those of K, and those that a mark brings
+unfoldable pub stand : List Mark → List ℕ → List ℕ
+stand [] K = K
+stand (m ∷ ms) K = let K′ = add (m .at) K in stand ms (cond (m .on) K′ K)
