@@ -2,9 +2,9 @@
 use grid::change::change_cells;
 use grid::floor::Floor;
 use plane::point::Point;
-use question::ask::Place;
-use question::ask::ask;
+use question::ask::judge;
 use question::search::Question;
+use question::search::search;
 ghost use mathlib.Core.List.{List};
 ghost use mathlib.Core.Path.{_≡_};
 ghost use Prim.Native.Nat.{ℕ};
@@ -33,7 +33,8 @@ fn question_of(shape: u8, x0: f64, y0: f64, x1: f64, y1: f64, extent: f64) -> Qu
     Question::Point(p)
 }
 
-// The key of the cell found, 0 for none, or the refusal's number: no key is that small.
+// The key of the cell found, 0 for none, or the refusal's number: no key is that small. What `ask` answers, with no `Place`
+// on the way: a match on it would be a branch.
 #[no_mangle]
 pub extern "C" fn runcedau_ask(
     shape: u8,
@@ -49,13 +50,13 @@ pub extern "C" fn runcedau_ask(
     ensures { λ r. ⌜ ((C : List ℕ) → Holds (now (cells .entry)) count C
         → r ≡ told (refuseAsk (length (now (cells .entry))) size count (question shape x0 y0 x1 y1 extent)) (ask size C (question shape x0 y0 x1 y1 extent))) ⌝ }
 {
-    let floor = Floor { size, cells: count };
-    let answer = ask(floor, cells, question_of(shape, x0, y0, x1, y1, extent));
-    let place = answer.cell;
-    match place {
-        Place::Nothing => answer.refusal as u64,
-        Place::At(cell) => cell.key(),
+    let question = question_of(shape, x0, y0, x1, y1, extent);
+    let number = judge(cells.len(), size, count, question);
+    if number != 0 {
+        return number as u64;
     }
+    let found = search(size, &cells[..count], question);
+    found.key
 }
 
 // A batch on a floor. `counts` gets how many changes were confirmed, how many corners altered, and how many cells are

@@ -3,6 +3,7 @@ use Prim.Native.Nat.{ℕ, _≤_, _<_}
 use mathlib.Core.Path.{_≡_, refl, sym, ap, _∙_, subst}
 use mathlib.Core.Bool.{Bool, true, false, cond, or-false}
 use mathlib.Core.List.{List}
+use mathlib.Core.Option.{Option, none, some}
 use lib.Dec.{ltb}
 use lib.ListN.{length, take}
 use lib.Ieee.{Float}
@@ -12,7 +13,6 @@ use Rattle.model.specs.Limits.{maxCoordinate}
 use Rattle.model.specs.Maps.{AscL}
 use Rattle.model.specs.Refusal.{firstOf, verdict, short, badSize, badQuestion}
 use Rattle.model.specs.Shape.{Question, ask}
-use Rattle.model.specs.Shape as model
 use Rattle.table.specs.Tables.{All}
 use Rattle.grid.specs.Floor.{Holds}
 use Rattle.grid.specs.declared.floor.Floor.{Floor}
@@ -20,7 +20,7 @@ use Rattle.grid.proofs.FloorLaws.{holds-cells}
 use Rattle.grid.proofs.RefuseLaws.{apart}
 use Rattle.question.specs.Ask.{Asked, cellAt, nowhere, placed, refuseAsk}
 use Rattle.question.specs.Question.{asked}
-use Rattle.question.specs.Walk.{found, spotted}
+use Rattle.question.specs.Walk.{found, foundAs, keyed}
 use Rattle.question.specs.declared.ask.Answer.{Answer}
 use Rattle.question.specs.declared.search.Found.{Found}
 use Rattle.question.specs.declared.search.Question as code
@@ -58,26 +58,36 @@ module _ (room : ℕ) (c : Float) (n : ℕ) (q : Question) where
       go false false true u v z = absurd (apart z)
       go false false false u v z = (ltb-false room 1024 u, ltb-false 1024 n v)
 
+-- ---- what was found, on a floor that holds its cells
+pub search-told : (c : Float) (t : List ℕ) (n : ℕ) (q : Question) (o : Found)
+    → (AscL 0 (take n t) → All (Inside maxCoordinate) (take n t) → o ≡ foundAs (ask c (take n t) q)) → (C : List ℕ) → Holds t n C → o ≡ foundAs (ask c C q)
+search-told c t n q o f C h =
+    let same = holds-cells t n C h in
+    f (subst (AscL 0) (sym same) (h .order)) (subst (All (Inside maxCoordinate)) (sym same) (h .inside)) ∙ ap (λ (D : List ℕ). foundAs (ask c D q)) same
+
+-- and read back
+found-back : (o : Option ℕ) → found (keyed o) .cell ≡ o
+found-back none = refl
+found-back (some k) = refl
+
 -- ---- the call: r is what it answers
 module _ (floor : Floor) (t : List ℕ) (q : code.Question) (r : Answer) where
   abbrev due : ℕ
   due = refuseAsk (length t) (floor .size) (floor .cells) (asked q)
 
   pub ask-refused : (m : ℕ) → (m ≡ 0 → ⊥) → m ≡ due → r ≡ nowhere m → Asked floor t q r
-  ask-refused m some e f = record {
+  ask-refused m not-zero e f = record {
     refusal = number ∙ e;
     refused = λ n s. f ∙ ap nowhere (sym number ∙ s);
-    answer = λ C h z. absurd (some (sym number ∙ z));
+    answer = λ C h z. absurd (not-zero (sym number ∙ z));
   }
     where
       number : r .refusal ≡ m
       number = ap (λ (a : Answer). a .refusal) f
 
-  pub ask-answered : (o : Found) → 0 ≡ due → r .refusal ≡ 0 → placed (r .cell) ≡ cellAt (spotted (o .cell))
-      → (AscL 0 (take (floor .cells) t) → All (Inside maxCoordinate) (take (floor .cells) t) → found o ≡ ask (floor .size) (take (floor .cells) t) (asked q)) → Asked floor t q r
-  ask-answered o e z p f = record { refusal = z ∙ e; refused = λ n s. absurd (apart (sym s ∙ z)); answer = λ C h w. p ∙ ap (λ (v : model.Found). cellAt (v .cell)) (told C h) }
+  pub ask-answered : (o : Found) → 0 ≡ due → r .refusal ≡ 0 → placed (r .cell) ≡ cellAt (found o .cell)
+      → (AscL 0 (take (floor .cells) t) → All (Inside maxCoordinate) (take (floor .cells) t) → o ≡ foundAs (ask (floor .size) (take (floor .cells) t) (asked q))) → Asked floor t q r
+  ask-answered o e z p f = record { refusal = z ∙ e; refused = λ n s. absurd (apart (sym s ∙ z)); answer = λ C h w. p ∙ ap cellAt (seen C h) }
     where
-      told : (C : List ℕ) → Holds t (floor .cells) C → found o ≡ ask (floor .size) C (asked q)
-      told C h =
-          let same = holds-cells t (floor .cells) C h in
-          f (subst (AscL 0) (sym same) (h .order)) (subst (All (Inside maxCoordinate)) (sym same) (h .inside)) ∙ ap (λ (D : List ℕ). ask (floor .size) D (asked q)) same
+      seen : (C : List ℕ) → Holds t (floor .cells) C → found o .cell ≡ ask (floor .size) C (asked q) .cell
+      seen C h = ap (λ (v : Found). found v .cell) (search-told (floor .size) t (floor .cells) (asked q) o f C h) ∙ found-back (ask (floor .size) C (asked q) .cell)

@@ -2,7 +2,7 @@
 use Prim.Native.Nat.{ℕ, _+_, _-_, _*_, _^_, _<_}
 use native.Mathlib.Omega.{arith}
 use mathlib.Core.Path.{_≡_, refl, sym, ap, _∙_}
-use mathlib.Core.Bool.{Bool, true, false, _&&_, and-true, and-assoc}
+use mathlib.Core.Bool.{Bool, true, false, cond, _&&_, and-true, and-assoc}
 use mathlib.Core.List.{List}
 use mathlib.Core.Option.{none, some}
 use lib.Ieee.{Float, binary64, add, sub, div, lt}
@@ -14,7 +14,7 @@ use Rattle.model.specs.Good.{Inside}
 use Rattle.model.specs.Limits.{maxCoordinate}
 use Rattle.model.specs.Maps.{find, has}
 use Rattle.model.specs.Plane.{Pt, minus, norm, tiny, cellOf}
-use Rattle.model.specs.Shape.{Found, lowEnd, highEnd, inBox, inCircle, inStrip, stripOf, pointTest, squareTest, circleTest, sweepTest}
+use Rattle.model.specs.Shape.{lowEnd, highEnd, inBox, inCircle, inStrip, stripOf, pointTest, squareTest, circleTest, sweepTest}
 use Rattle.shape.specs.Bounds.{inBounds}
 use Rattle.shape.specs.Circle.{circleMeets, circleOf}
 use Rattle.shape.specs.Sweep.{strip, rowsOf, columnsOf}
@@ -26,9 +26,9 @@ use Rattle.shape.proofs.CircleLaws.{circle-in-box, circle-out-of-box}
 use Rattle.shape.proofs.SweepLaws.{sweep-cells}
 use Rattle.table.specs.Tables.{All}
 use Rattle.table.proofs.AllLaws.{all-map}
-use Rattle.question.specs.Walk.{boundsAround, flat, round, swept, taken}
+use Rattle.question.specs.Walk.{boundsAround, flat, foundAs, keyed, round, swept, taken}
+use Rattle.question.specs.declared.search.Found.{Found}
 use Rattle.question.proofs.FindLaws.{find-agree}
-use Rattle.question.proofs.WalkLaws.{answer}
 
 -- ---- one cell
 module _ (c : Float) (k : ℕ) (h : Inside maxCoordinate k) where
@@ -70,35 +70,31 @@ module _ (c : Float) (C : List ℕ) (p : Pt) (u v : ℕ) (eu : u ≡ biased (flo
   unfolding cellOf key
   cell-is = rw (eu, ev) refl
 
-  pub point-there : has (u * W + v) C ≡ true → answer (some (u * W + v)) ≡ pointTest c C p
+  pub point-found : (f : Found) (hit : Bool) → hit ≡ has (u * W + v) C → f ≡ keyed (cond hit (some (u * W + v)) none) → f ≡ foundAs (pointTest c C p)
   unfolding pointTest
-  point-there t = rw (cell-is, t) refl
-
-  pub point-none : has (u * W + v) C ≡ false → answer none ≡ pointTest c C p
-  unfolding pointTest
-  point-none t = rw (cell-is, t) refl
+  point-found f hit h e = e ∙ rw (h, cell-is) refl
 
 -- ---- the walk's answer is the model's
-found-same : (p q : ℕ → Bool) (C : List ℕ) → All (Inside maxCoordinate) C → ((k : ℕ) → Inside maxCoordinate k → p k ≡ q k) → answer (find p C) ≡ answer (find q C)
-found-same p q C a f = ap answer (find-agree p q C (all-map C f a))
+found-same : (p q : ℕ → Bool) (C : List ℕ) → All (Inside maxCoordinate) C → ((k : ℕ) → Inside maxCoordinate k → p k ≡ q k) → keyed (find p C) ≡ keyed (find q C)
+found-same p q C a f = ap keyed (find-agree p q C (all-map C f a))
 
 module _ (c : Float) (C : List ℕ) (inside : All (Inside maxCoordinate) C) (f : Found) (X : Bounds) where
   module _ (p : Pt) (Y : Bounds) where
     pub square-found : (w : Float) → X ≡ boundsAround c (p .x) (div binary64 w (pow2 1)) → Y ≡ boundsAround c (p .y) (div binary64 w (pow2 1))
-        → f ≡ answer (find (taken X (flat Y)) C) → f ≡ squareTest c C p w
+        → f ≡ keyed (find (taken X (flat Y)) C) → f ≡ foundAs (squareTest c C p w)
     unfolding squareTest
     square-found w x y e =
         let d = div binary64 w (pow2 1) in
         e ∙ rw (x, y) (found-same (taken (boundsAround c (p .x) d) (flat (boundsAround c (p .y) d))) (inBox c p d) C inside (λ k h. flat-taken c k h p d))
 
     pub circle-found : (r : Float) (g : Circle) → X ≡ boundsAround c (p .x) r → Y ≡ boundsAround c (p .y) r → g ≡ circleOf c p r
-        → f ≡ answer (find (taken X (round Y g)) C) → f ≡ circleTest c C p r
+        → f ≡ keyed (find (taken X (round Y g)) C) → f ≡ foundAs (circleTest c C p r)
     unfolding circleTest
     circle-found r g x y o e =
         e ∙ rw (x, y, o) (found-same (taken (boundsAround c (p .x) r) (round (boundsAround c (p .y) r) (circleOf c p r))) (inCircle c p r) C inside (λ k h. round-taken c k h p r))
 
   pub sweep-found : (p0 p1 : Pt) (w : Float) (q : Strip) → lt (norm (minus p1 p0)) tiny ≡ false → strip q ≡ stripOf p0 p1 (div binary64 w (pow2 1)) → X ≡ columnsOf c (strip q)
-      → f ≡ answer (find (taken X (swept q c)) C) → f ≡ sweepTest c C p0 p1 w
+      → f ≡ keyed (find (taken X (swept q c)) C) → f ≡ foundAs (sweepTest c C p0 p1 w)
   unfolding sweepTest
   sweep-found p0 p1 w q n s x e =
       rw (n, ← s) (e ∙ rw x (found-same (taken (columnsOf c (strip q)) (swept q c)) (inStrip c (strip q)) C inside (λ k h. swept-taken c k h q)))

@@ -3,7 +3,7 @@ use Prim.Native.Nat.{ℕ, suc, _+_, _-_, _*_, _^_, _≤_, _<_}
 use native.Mathlib.Numerals.{add-one}
 use native.Mathlib.Omega.{arith}
 use mathlib.Core.Path.{_≡_, refl, sym, ap, _∙_, subst}
-use mathlib.Core.Bool.{Bool, true, false, _&&_, and-assoc, and-false}
+use mathlib.Core.Bool.{Bool, true, false, cond, _&&_, and-assoc, and-false, true≢false, false≢true}
 use mathlib.Core.List.{List, [], _∷_, _++_}
 use mathlib.Core.Logic.{⊎-elim}
 use mathlib.Core.Option.{Option, none, some}
@@ -15,7 +15,6 @@ use Rattle.ieee.proofs.Tools.{lt-or-ge}
 use Rattle.lists.proofs.Parts.{tail-is}
 use Rattle.model.specs.Cell.{W, col, row}
 use Rattle.model.specs.Maps.{AscL, find, sift}
-use Rattle.model.specs.Shape.{Found}
 use Rattle.shape.specs.Bounds.{inBounds}
 use Rattle.shape.specs.declared.bounds.Bounds.{Bounds}
 use Rattle.table.specs.Columns.{InColumn, columnOf, rowsFrom}
@@ -24,12 +23,18 @@ use Rattle.table.proofs.AllLaws.{all-at, all-from, all-map, ascL-all, ascL-drop
 use Rattle.table.proofs.ColumnLaws.{column-ascends, column-one, rows-ascend}
 use Rattle.table.proofs.RankLaws.{rank-le, rank-splits}
 use Rattle.table.proofs.SiftLaws.{sift-below, sift-same}
-use Rattle.question.specs.Walk.{Shape, columnTaken, passes, rowTaken, rowsAt, taken}
+use Rattle.question.specs.Walk.{Shape, columnTaken, flat, keyed, passes, rowTaken, rowsAt, taken}
+use Rattle.question.specs.declared.search.Found.{Found}
 use Rattle.question.proofs.FindLaws.{all-kept, all-rest, find-agree, find-back, find-front, find-here, find-later, find-nowhere, find-sift}
 
--- what a test answers
-abbrev pub answer : Option ℕ → Found
-answer o = record { cell = o }
+-- ---- an answer read back
+keyed-some : (o : Option ℕ) → keyed o .some ≡ true → (k : ℕ) × (o ≡ some k)
+keyed-some none e = absurd (false≢true e)
+keyed-some (some k) e = (k, refl)
+
+keyed-none : (o : Option ℕ) → keyed o .some ≡ false → o ≡ none
+keyed-none none e = refl
+keyed-none (some k) e = absurd (true≢false e)
 
 -- from place i on an ascending list, no entry is below the one at i
 from-here : (l : List ℕ) (i : ℕ) → i < length l → AscL 0 l → All (λ k. getD l i 0 ≤ k) (drop i l)
@@ -70,6 +75,15 @@ module _ (high : ℕ) (s : Shape) (l : List ℕ) (i : ℕ) (h : i < length l) wh
   pub row-fails : passes s (getD l i 0) ≡ false → find wanted l ≡ find wanted (drop i l) → find wanted l ≡ find wanted (drop (i + 1) l)
   row-fails p e = e ∙ step ∙ find-later wanted (getD l i 0) (drop (i + 1) l) (rw p (and-false (ltb (row (getD l i 0)) high)))
 
+-- where every cell passes, the first tells
+pub row-first : (high : ℕ) (b : Bounds) (l : List ℕ) → 0 < length l → (x : ℕ) → AscL 0 l → InColumn x l → cond (ltb (row (getD l 0 0)) high) (some (getD l 0 0)) none ≡ find (rowTaken high (flat b)) l
+row-first high b l h x a o =
+    let k = getD l 0 0 in
+    ⊎-elim
+    (λ t. rw (lt-ltb (row k) high t) (row-passes high (flat b) l 0 h t refl refl))
+    (λ t. rw (le-ltb (row k) high t) (row-past high (flat b) l 0 h x a o t refl))
+    (lt-or-ge (row k) high)
+
 -- at the end
 pub find-past : (p : ℕ → Bool) (l : List ℕ) (i : ℕ) → length l ≤ i → find p (drop i l) ≡ none
 unfolding find
@@ -84,10 +98,11 @@ rows-found s x l =
     (all-from (λ k. (leb (b .low) (row k) && rowTaken (b .high) s k) ≡ columnTaken s x k) l (λ i. let k = getD l i 0 in sym (and-assoc (leb (b .low) (row k)) (ltb (row k) (b .high)) (passes s k))))
 
 pub rows-answered : (s : Shape) (x : ℕ) (l m : List ℕ) (b : Bounds) (r : Found) → b ≡ rowsAt s x → AscL 0 l → InColumn x l → m ≡ rowsFrom (b .low) l
-    → ((z : ℕ) → AscL 0 m → InColumn z m → r ≡ answer (find (rowTaken (b .high) s) m)) → r ≡ answer (find (λ k. columnTaken s x k) l)
+    → ((z : ℕ) → AscL 0 m → InColumn z m → r ≡ keyed (find (rowTaken (b .high) s) m)) → r ≡ keyed (find (λ k. columnTaken s x k) l)
 rows-answered s x l m b r q a o e f =
+    let same : find (rowTaken (b .high) s) m ≡ find (λ k. columnTaken s x k) l = rw (e, q) (rows-found s x l) in
     f x (subst (AscL 0) (sym e) (rows-ascend (b .low) 0 l a)) (subst (InColumn x) (sym e) (all-kept (λ k. col k ≡ x) (λ k. leb (b .low) (row k)) l o))
-    ∙ ap answer (rw (e, q) (rows-found s x l))
+    ∙ ap keyed same
 
 -- ---- along a table; once the columns below the first are passed, only the last counts
 abbrev pub below : ℕ → Shape → ℕ → Bool
@@ -187,17 +202,23 @@ module _ (high : ℕ) (s : Shape) (l : List ℕ) (i : ℕ) (h : i < length l) (a
     pub column-some : length m ≡ 0 → ⊥
     column-some z = begins-some y (drop (suc i) l) (rw (cut, drop-cons l i 0 h) at z)
 
-    module _ (b : col y < high) (r : Found) (f : AscL 0 m → InColumn (col y) m → r ≡ answer (find (λ k. columnTaken s (col y) k) m)) where
-      told : r .cell ≡ find (below high s) m
+    module _ (b : col y < high) (r : Found) (f : AscL 0 m → InColumn (col y) m → r ≡ keyed (find (λ k. columnTaken s (col y) k) m)) where
+      told : r ≡ keyed (find (below high s) m)
       told =
-          ap (λ (v : Found). v .cell) (f (subst (AscL 0) (sym cut) (column-ascends (col y) 0 (drop i l) (ascL-drop 0 i l a))) one)
-          ∙ find-agree (λ k. columnTaken s (col y) k) (below high s) m (all-map m inside one)
+          f (subst (AscL 0) (sym cut) (column-ascends (col y) 0 (drop i l) (ascL-drop 0 i l a))) one
+          ∙ ap keyed (find-agree (λ k. columnTaken s (col y) k) (below high s) m (all-map m inside one))
         where
           inside : (k : ℕ) → col k ≡ col y → columnTaken s (col y) k ≡ below high s k
           inside k c = subst (λ (x : ℕ). columnTaken s (col y) k ≡ (ltb x high && columnTaken s x k)) (sym c) (rw (lt-ltb (col y) high b) refl)
 
-      pub column-here : (k : ℕ) → r .cell ≡ some k → find (below high s) (drop i l) ≡ r .cell
-      column-here k q = ap (find (below high s)) splits ∙ find-front (below high s) m (drop (i + length m) l) k (sym told ∙ q) ∙ sym q
+      some-told : keyed (find (below high s) m) .some ≡ r .some
+      some-told = sym (ap (λ (v : Found). v .some) told)
 
-      pub column-next : r .cell ≡ none → find (below high s) (drop i l) ≡ find (below high s) (drop (i + length m) l)
-      column-next q = ap (find (below high s)) splits ∙ find-back (below high s) m (drop (i + length m) l) (sym told ∙ q)
+      pub column-here : r .some ≡ true → r ≡ keyed (find (below high s) (drop i l))
+      column-here t =
+          let w = keyed-some (find (below high s) m) (some-told ∙ t) in
+          told ∙ ap keyed (w .1 ∙ sym (ap (find (below high s)) splits ∙ find-front (below high s) m (drop (i + length m) l) (w .0) (w .1)))
+
+      pub column-next : r .some ≡ false → find (below high s) (drop i l) ≡ find (below high s) (drop (i + length m) l)
+      column-next t =
+          ap (find (below high s)) splits ∙ find-back (below high s) m (drop (i + length m) l) (keyed-none (find (below high s) m) (some-told ∙ t))

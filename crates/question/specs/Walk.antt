@@ -1,6 +1,6 @@
 -- What a shape takes, by columns and rows, and what a test finds. Definitions only; proofs/TakenLaws.antt shows that they are the model's cells.
 use Prim.Native.Nat.{ℕ}
-use mathlib.Core.Bool.{Bool, true, _&&_}
+use mathlib.Core.Bool.{Bool, true, false, cond, _&&_}
 use mathlib.Core.Option.{Option, none, some}
 use lib.Dec.{ltb}
 use lib.Ieee.{Float, binary64, add, sub, div}
@@ -13,15 +13,17 @@ use Rattle.shape.specs.declared.bounds.Bounds.{Bounds}
 use Rattle.shape.specs.declared.circle.Circle.{Circle}
 use Rattle.shape.specs.declared.sweep.Strip.{Strip}
 use Rattle.question.specs.declared.search.Found.{Found}
-use Rattle.question.specs.declared.search.Spot.{Spot}
 
--- ---- an answer: a cell's key, or none
-abbrev pub spotted : Spot → Option ℕ
-spotted Spot.Nothing = none
-spotted (Spot.At k) = some k
-
+-- ---- the model's answer, a cell's key or none; and the one struct that stands for it, whose key is 0 where nothing is found
 abbrev pub found : Found → model.Found
-found f = record { cell = spotted (f .cell) }
+found f = record { cell = cond (f .some) (some (f .key)) none }
+
+abbrev pub keyed : Option ℕ → Found
+keyed none = record { some = false; key = 0 }
+keyed (some k) = record { some = true; key = k }
+
+abbrev pub foundAs : model.Found → Found
+foundAs m = keyed (m .cell)
 
 -- ---- the columns, or rows, that a square of half the width d around z takes, for cells of size c
 abbrev pub boundsAround : Float → Float → Float → Bounds

@@ -1,7 +1,7 @@
 // The question as it is put to a floor.
 use crate::judge::bad_question;
+use crate::search::Found;
 use crate::search::Question;
-use crate::search::Spot;
 use crate::search::search;
 use grid::cell::Cell;
 use grid::floor::Floor;
@@ -9,7 +9,7 @@ use grid::judge::bad_size;
 ghost use mathlib.Core.Path.{_≡_};
 ghost use Rattle.question.specs.Ask.{Asked, cellAt, nowhere, placed, refuseAsk};
 ghost use Rattle.question.specs.Question.{asked};
-ghost use Rattle.question.specs.Walk.{spotted};
+ghost use Rattle.question.specs.Walk.{found};
 
 // `Option<Cell>`.
 pub enum Place {
@@ -32,17 +32,17 @@ fn refused(number: u8) -> Answer
     }
 }
 
-fn place_of(spot: Spot) -> Place
-    ensures { λ r. ⌜ placed r ≡ cellAt (spotted spot) ⌝ }
+fn place_of(f: Found) -> Place
+    ensures { λ r. ⌜ placed r ≡ cellAt (found f .cell) ⌝ }
 {
-    match spot {
-        Spot::Nothing => Place::Nothing,
-        Spot::At(k) => Place::At(Cell::of_key(k)),
+    if f.some {
+        return Place::At(Cell::of_key(f.key));
     }
+    Place::Nothing
 }
 
 // Which refusal is due: 9, by the lent places; 1; 6, of the floor handed in; 8.
-fn judge(room: usize, size: f64, cells: usize, question: Question) -> u8
+pub fn judge(room: usize, size: f64, cells: usize, question: Question) -> u8
     ensures { λ r. ⌜ r ≡ refuseAsk room size cells (asked question) ⌝ }
 {
     if room < 1024 {
@@ -70,9 +70,8 @@ pub fn ask(floor: Floor, cells: &[u64], question: Question) -> Answer
         return refused(number);
     }
     let found = search(floor.size, &cells[..n], question);
-    let spot = found.cell;
     Answer {
         refusal: 0,
-        cell: place_of(spot),
+        cell: place_of(found),
     }
 }

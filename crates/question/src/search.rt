@@ -7,6 +7,8 @@ use shape::bounds::Bounds;
 use shape::circle::Circle;
 use shape::sweep::Strip;
 use table::place::contains;
+ghost use mathlib.Core.Bool.{cond};
+ghost use mathlib.Core.Option.{none, some};
 ghost use mathlib.Core.Path.{_≡_};
 ghost use Rattle.model.specs.Good.{Inside};
 ghost use Rattle.model.specs.Limits.{maxCoordinate};
@@ -15,7 +17,7 @@ ghost use Rattle.model.specs.Shape.{ask, pointTest, squareTest, circleTest, swe
 ghost use Rattle.plane.specs.Values.{pt};
 ghost use Rattle.table.specs.Tables.{All};
 ghost use Rattle.question.specs.Question.{asked};
-ghost use Rattle.question.specs.Walk.{boundsAround, found};
+ghost use Rattle.question.specs.Walk.{boundsAround, foundAs, keyed};
 
 // One question carries its shape and that shape's own lengths: a point; a centre and a width; a centre and a
 // radius; two points and a width.
@@ -26,28 +28,35 @@ pub enum Question {
     Sweep(Point, Point, f64),
 }
 
-// A cell's key, or none.
-pub enum Spot {
-    Nothing,
-    At(u64),
+// What a test finds: a cell's key, or none, and then the key is 0. Numbers and no enum: whether something is found is
+// often not to be foretold, and a struct of numbers needs no branch.
+pub struct Found {
+    pub some: bool,
+    pub key: u64,
 }
 
-// What a test finds.
-pub struct Found {
-    pub cell: Spot,
+impl Found {
+    // k where it is a hit, else none. In a function of its own this compiles to a choice with no branch; where `point`
+    // tests the hit itself, it is a jump.
+    pub(crate) fn only(hit: bool, k: u64) -> Found
+        ensures { λ r. ⌜ r ≡ keyed (cond hit (some k) none) ⌝ }
+    {
+        if hit {
+            return Found { some: true, key: k };
+        }
+        Found {
+            some: false,
+            key: 0,
+        }
+    }
 }
 
 // `is_point_occupied`
 fn point(size: f64, cells: &[u64], p: Point) -> Found
-    ensures { λ r. ⌜ (AscL 0 (now (cells .entry)) → found r ≡ pointTest size (now (cells .entry)) (pt p)) ⌝ }
+    ensures { λ r. ⌜ (AscL 0 (now (cells .entry)) → r ≡ foundAs (pointTest size (now (cells .entry)) (pt p))) ⌝ }
 {
     let k = ieee::whole::column_of(p.x / size) * 4294967296 + ieee::whole::column_of(p.y / size);
-    if contains(cells, k) {
-        return Found { cell: Spot::At(k) };
-    }
-    Found {
-        cell: Spot::Nothing,
-    }
+    Found::only(contains(cells, k), k)
 }
 
 // The columns or rows of a square of half the width d.
@@ -59,7 +68,7 @@ fn around(size: f64, z: f64, d: f64) -> Bounds
 
 // `is_square_occupied`
 fn square(size: f64, cells: &[u64], p: Point, width: f64) -> Found
-    ensures { λ r. ⌜ (AscL 0 (now (cells .entry)) → All (Inside maxCoordinate) (now (cells .entry)) → found r ≡ squareTest size (now (cells .entry)) (pt p) width) ⌝ }
+    ensures { λ r. ⌜ (AscL 0 (now (cells .entry)) → All (Inside maxCoordinate) (now (cells .entry)) → r ≡ foundAs (squareTest size (now (cells .entry)) (pt p) width)) ⌝ }
 {
     let d = width / 2.0;
     first_flat(cells, around(size, p.x, d), around(size, p.y, d))
@@ -67,7 +76,7 @@ fn square(size: f64, cells: &[u64], p: Point, width: f64) -> Found
 
 // `is_circle_occupied`
 fn circle(size: f64, cells: &[u64], p: Point, radius: f64) -> Found
-    ensures { λ r. ⌜ (AscL 0 (now (cells .entry)) → All (Inside maxCoordinate) (now (cells .entry)) → found r ≡ circleTest size (now (cells .entry)) (pt p) radius) ⌝ }
+    ensures { λ r. ⌜ (AscL 0 (now (cells .entry)) → All (Inside maxCoordinate) (now (cells .entry)) → r ≡ foundAs (circleTest size (now (cells .entry)) (pt p) radius)) ⌝ }
 {
     first_round(
         cells,
@@ -79,7 +88,7 @@ fn circle(size: f64, cells: &[u64], p: Point, radius: f64) -> Found
 
 // `is_sweep_occupied`; 1e-8 as there.
 fn sweep(size: f64, cells: &[u64], p0: Point, p1: Point, width: f64) -> Found
-    ensures { λ r. ⌜ (AscL 0 (now (cells .entry)) → All (Inside maxCoordinate) (now (cells .entry)) → found r ≡ sweepTest size (now (cells .entry)) (pt p0) (pt p1) width) ⌝ }
+    ensures { λ r. ⌜ (AscL 0 (now (cells .entry)) → All (Inside maxCoordinate) (now (cells .entry)) → r ≡ foundAs (sweepTest size (now (cells .entry)) (pt p0) (pt p1) width)) ⌝ }
 {
     let length = p1.minus(p0).norm();
     if length < 1e-8 {
@@ -91,7 +100,7 @@ fn sweep(size: f64, cells: &[u64], p0: Point, p1: Point, width: f64) -> Found
 
 // The first occupied cell, by x, then y, that qualifies.
 pub fn search(size: f64, cells: &[u64], question: Question) -> Found
-    ensures { λ r. ⌜ (AscL 0 (now (cells .entry)) → All (Inside maxCoordinate) (now (cells .entry)) → found r ≡ ask size (now (cells .entry)) (asked question)) ⌝ }
+    ensures { λ r. ⌜ (AscL 0 (now (cells .entry)) → All (Inside maxCoordinate) (now (cells .entry)) → r ≡ foundAs (ask size (now (cells .entry)) (asked question))) ⌝ }
 {
     match question {
         Question::Point(p) => point(size, cells, p),

@@ -2,7 +2,6 @@
 // are a stretch that begins inside it. There is a walk for each shape: a square and a circle can look at one cell
 // before they cut its column out of the table, a strip has to work out its rows first.
 use crate::search::Found;
-use crate::search::Spot;
 use shape::bounds::Bounds;
 use shape::circle::Circle;
 use shape::sweep::Strip;
@@ -15,7 +14,7 @@ ghost use Rattle.model.specs.Maps.{AscL, find};
 ghost use Rattle.shape.specs.Bounds.{inBounds};
 ghost use Rattle.shape.specs.declared.bounds.Bounds.{Bounds};
 ghost use Rattle.table.specs.Columns.{InColumn};
-ghost use Rattle.question.specs.Walk.{columnTaken, flat, found, round, rowTaken, swept, taken};
+ghost use Rattle.question.specs.Walk.{columnTaken, flat, keyed, round, rowTaken, swept, taken};
 
 // Keys from one column to the next.
 const WIDTH: u64 = 4294967296;
@@ -42,58 +41,56 @@ fn met_in_rows(k: u64, rows: Bounds, circle: Circle) -> bool
 
 // The first of the cells from a row on, if it lies below the row `high`.
 fn lowest(rows: &[u64], high: u64) -> Found
-    ensures { λ r. ⌜ ((x : ℕ) (b : Bounds) → AscL 0 (now (rows .entry)) → InColumn x (now (rows .entry)) → found r ≡ record { cell = find (rowTaken high (flat b)) (now (rows .entry)) }) ⌝ }
+    ensures { λ r. ⌜ ((x : ℕ) (b : Bounds) → AscL 0 (now (rows .entry)) → InColumn x (now (rows .entry)) → r ≡ keyed (find (rowTaken high (flat b)) (now (rows .entry)))) ⌝ }
 {
     if rows.len() == 0 {
         return Found {
-            cell: Spot::Nothing,
+            some: false,
+            key: 0,
         };
     }
     let k = rows[0];
-    if high <= k % WIDTH {
-        return Found {
-            cell: Spot::Nothing,
-        };
-    }
-    Found { cell: Spot::At(k) }
+    Found::only(k % WIDTH < high, k)
 }
 
 // The first of the cells from a row on that lies below the row `high` and that the circle meets.
 fn first_met(rows: &[u64], high: u64, circle: Circle) -> Found
-    ensures { λ r. ⌜ ((x : ℕ) (b : Bounds) → AscL 0 (now (rows .entry)) → InColumn x (now (rows .entry)) → found r ≡ record { cell = find (rowTaken high (round b circle)) (now (rows .entry)) }) ⌝ }
+    ensures { λ r. ⌜ ((x : ℕ) (b : Bounds) → AscL 0 (now (rows .entry)) → InColumn x (now (rows .entry)) → r ≡ keyed (find (rowTaken high (round b circle)) (now (rows .entry)))) ⌝ }
 {
     let mut i = 0;
     while i < rows.len() {
         let k = rows[i];
         if high <= k % WIDTH {
             return Found {
-                cell: Spot::Nothing,
+                some: false,
+                key: 0,
             };
         }
         if circle.meets(k) {
-            return Found { cell: Spot::At(k) };
+            return Found { some: true, key: k };
         }
         i += 1;
     }
     Found {
-        cell: Spot::Nothing,
+        some: false,
+        key: 0,
     }
 }
 
 fn flat_in(col: &[u64], rows: Bounds) -> Found
-    ensures { λ r. ⌜ ((x : ℕ) → AscL 0 (now (col .entry)) → InColumn x (now (col .entry)) → found r ≡ record { cell = find (columnTaken (flat rows) x) (now (col .entry)) }) ⌝ }
+    ensures { λ r. ⌜ ((x : ℕ) → AscL 0 (now (col .entry)) → InColumn x (now (col .entry)) → r ≡ keyed (find (columnTaken (flat rows) x) (now (col .entry)))) ⌝ }
 {
     lowest(rows_from(col, rows.low), rows.high)
 }
 
 fn round_in(col: &[u64], rows: Bounds, circle: Circle) -> Found
-    ensures { λ r. ⌜ ((x : ℕ) → AscL 0 (now (col .entry)) → InColumn x (now (col .entry)) → found r ≡ record { cell = find (columnTaken (round rows circle) x) (now (col .entry)) }) ⌝ }
+    ensures { λ r. ⌜ ((x : ℕ) → AscL 0 (now (col .entry)) → InColumn x (now (col .entry)) → r ≡ keyed (find (columnTaken (round rows circle) x) (now (col .entry)))) ⌝ }
 {
     first_met(rows_from(col, rows.low), rows.high, circle)
 }
 
 fn swept_in(col: &[u64], x: u64, strip: Strip, size: f64) -> Found
-    ensures { λ r. ⌜ (AscL 0 (now (col .entry)) → InColumn x (now (col .entry)) → found r ≡ record { cell = find (columnTaken (swept strip size) x) (now (col .entry)) }) ⌝ }
+    ensures { λ r. ⌜ (AscL 0 (now (col .entry)) → InColumn x (now (col .entry)) → r ≡ keyed (find (columnTaken (swept strip size) x) (now (col .entry)))) ⌝ }
 {
     flat_in(col, strip.rows(size, x))
 }
@@ -102,16 +99,18 @@ fn swept_in(col: &[u64], x: u64, strip: Strip, size: f64) -> Found
 
 // The same rows in every column. The first cell from the first row of the first column on is often the one.
 pub(crate) fn first_flat(cells: &[u64], columns: Bounds, rows: Bounds) -> Found
-    ensures { λ r. ⌜ (AscL 0 (now (cells .entry)) → found r ≡ record { cell = find (taken columns (flat rows)) (now (cells .entry)) }) ⌝ }
+    ensures { λ r. ⌜ (AscL 0 (now (cells .entry)) → r ≡ keyed (find (taken columns (flat rows)) (now (cells .entry)))) ⌝ }
 {
     if WIDTH <= columns.low {
         return Found {
-            cell: Spot::Nothing,
+            some: false,
+            key: 0,
         };
     }
     if WIDTH <= rows.low {
         return Found {
-            cell: Spot::Nothing,
+            some: false,
+            key: 0,
         };
     }
     let mut i = place(cells, columns.low * WIDTH + rows.low);
@@ -120,16 +119,16 @@ pub(crate) fn first_flat(cells: &[u64], columns: Bounds, rows: Bounds) -> Found
         let x = k / WIDTH;
         if columns.high <= x {
             return Found {
-                cell: Spot::Nothing,
+                some: false,
+                key: 0,
             };
         }
         if in_rows(k % WIDTH, rows) {
-            return Found { cell: Spot::At(k) };
+            return Found { some: true, key: k };
         }
         let col = column(&cells[i..], x);
         let here = flat_in(col, rows);
-        let spot = here.cell;
-        if let Spot::At(_) = spot {
+        if here.some {
             return here;
         }
         let n = col.len();
@@ -140,22 +139,25 @@ pub(crate) fn first_flat(cells: &[u64], columns: Bounds, rows: Bounds) -> Found
         }
     }
     Found {
-        cell: Spot::Nothing,
+        some: false,
+        key: 0,
     }
 }
 
 // The cells that a circle meets, of the same rows in every column.
 pub(crate) fn first_round(cells: &[u64], columns: Bounds, rows: Bounds, circle: Circle) -> Found
-    ensures { λ r. ⌜ (AscL 0 (now (cells .entry)) → found r ≡ record { cell = find (taken columns (round rows circle)) (now (cells .entry)) }) ⌝ }
+    ensures { λ r. ⌜ (AscL 0 (now (cells .entry)) → r ≡ keyed (find (taken columns (round rows circle)) (now (cells .entry)))) ⌝ }
 {
     if WIDTH <= columns.low {
         return Found {
-            cell: Spot::Nothing,
+            some: false,
+            key: 0,
         };
     }
     if WIDTH <= rows.low {
         return Found {
-            cell: Spot::Nothing,
+            some: false,
+            key: 0,
         };
     }
     let mut i = place(cells, columns.low * WIDTH + rows.low);
@@ -164,16 +166,16 @@ pub(crate) fn first_round(cells: &[u64], columns: Bounds, rows: Bounds, circle: 
         let x = k / WIDTH;
         if columns.high <= x {
             return Found {
-                cell: Spot::Nothing,
+                some: false,
+                key: 0,
             };
         }
         if met_in_rows(k, rows, circle) {
-            return Found { cell: Spot::At(k) };
+            return Found { some: true, key: k };
         }
         let col = column(&cells[i..], x);
         let here = round_in(col, rows, circle);
-        let spot = here.cell;
-        if let Spot::At(_) = spot {
+        if here.some {
             return here;
         }
         let n = col.len();
@@ -184,17 +186,19 @@ pub(crate) fn first_round(cells: &[u64], columns: Bounds, rows: Bounds, circle: 
         }
     }
     Found {
-        cell: Spot::Nothing,
+        some: false,
+        key: 0,
     }
 }
 
 // In each column the rows of a swept strip.
 pub(crate) fn first_swept(cells: &[u64], columns: Bounds, strip: Strip, size: f64) -> Found
-    ensures { λ r. ⌜ (AscL 0 (now (cells .entry)) → found r ≡ record { cell = find (taken columns (swept strip size)) (now (cells .entry)) }) ⌝ }
+    ensures { λ r. ⌜ (AscL 0 (now (cells .entry)) → r ≡ keyed (find (taken columns (swept strip size)) (now (cells .entry)))) ⌝ }
 {
     if WIDTH <= columns.low {
         return Found {
-            cell: Spot::Nothing,
+            some: false,
+            key: 0,
         };
     }
     let mut i = place(cells, columns.low * WIDTH);
@@ -202,13 +206,13 @@ pub(crate) fn first_swept(cells: &[u64], columns: Bounds, strip: Strip, size: f6
         let x = cells[i] / WIDTH;
         if columns.high <= x {
             return Found {
-                cell: Spot::Nothing,
+                some: false,
+                key: 0,
             };
         }
         let col = column(&cells[i..], x);
         let here = swept_in(col, x, strip, size);
-        let spot = here.cell;
-        if let Spot::At(_) = spot {
+        if here.some {
             return here;
         }
         let n = col.len();
@@ -219,6 +223,7 @@ pub(crate) fn first_swept(cells: &[u64], columns: Bounds, strip: Strip, size: f6
         }
     }
     Found {
-        cell: Spot::Nothing,
+        some: false,
+        key: 0,
     }
 }

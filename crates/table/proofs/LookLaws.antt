@@ -1,18 +1,19 @@
 -- A key looked for in an ascending list: it is there or not, and what the list is with the key put in and taken out at its place. Assumes nothing.
 use Prim.Native.Nat.{ℕ, suc, _+_, _-_, _≤_, _<_}
 use native.Mathlib.Omega.{arith}
-use mathlib.Core.Path.{_≡_, refl, sym, ap, _∙_}
+use mathlib.Core.Path.{_≡_, refl, sym, ap, _∙_, subst}
 use mathlib.Core.Logic.{_⊎_, inl, inr, ⊎-elim}
 use mathlib.Core.Bool.{Bool, true, false, _&&_}
 use mathlib.Core.List.{List, [], _∷_, _++_}
 use lib.Dec.{eqb, ltb, leb·suc-suc}
+use mir.Val.{boolByte}
 use lib.ListN.{length, take, drop, getD, length-append, length-drop}
 use lib.Seq.{length-take-le}
 use borrow.Author.Tests.{lt-ltb, le-ltb, eq-eqb, ne-eqb, ltb-true}
 use Rattle.ieee.proofs.Tools.{lt-or-ge, not-both}
 use Rattle.model.specs.Maps.{AscL, has, add, cut}
 use Rattle.table.specs.Tables.{rank, stands}
-use Rattle.table.proofs.RankLaws.{rank-le}
+use Rattle.table.proofs.RankLaws.{rank-below, rank-le}
 
 -- k is a key of l
 pub record There (k : ℕ) (l : List ℕ) : Type 0 where
@@ -62,10 +63,37 @@ look lo k (x ∷ l) a = ⊎-elim (further (look (suc x) k l (a .1))) here (lt-or
         (λ b. let e : eqb k x ≡ true = eq-eqb k x (omega arith) in inl (record { stood = rw (first, z) e; held = rw e; put = rw e; took = rw (e, first) (none .1) }))
         (lt-or-ge k x)
 
+-- a place up to n, and the test whether it is n, as a number
+pub byte-behind : (at n : ℕ) → at ≤ n → ((at < n) × (boolByte (eqb at n) ≡ 0)) ⊎ ((at ≡ n) × (boolByte (eqb at n) ≡ 1))
+byte-behind at n h =
+    ⊎-elim
+    (λ b. inl (b, ap boolByte (ne-eqb at n (λ e. omega arith))))
+    (λ b. let e : at ≡ n = omega arith in inr (e, ap boolByte (eq-eqb at n e)))
+    (lt-or-ge at n)
+
 -- ---- what is seen at the key's place
 module _ (k at : ℕ) (l : List ℕ) (a : AscL 0 l) (e : at ≡ rank k l) where
   pub stands-has : stands k at l ≡ has k l
   stands-has = rw e (⊎-elim (λ w. w .stood ∙ sym (w .held)) (λ w. w .stood ∙ sym (w .held)) (look 0 k l a))
+
+  -- looked for at its place, or at the last key where the place is behind it
+  pub seen-has : 0 < length l → eqb k (getD l (at - boolByte (eqb at (length l))) 0) ≡ has k l
+  seen-has h = ⊎-elim inside behind (byte-behind at (length l) (rw e (rank-le k l)))
+    where
+      seen : ℕ → Type 0
+      seen i = eqb k (getD l i 0) ≡ has k l
+
+      inside : (at < length l) × (boolByte (eqb at (length l)) ≡ 0) → seen (at - boolByte (eqb at (length l)))
+      inside w =
+          let i : at ≡ at - boolByte (eqb at (length l)) = omega arith in
+          subst seen i (rw (lt-ltb at (length l) (w .0)) at stands-has)
+
+      behind : (at ≡ length l) × (boolByte (eqb at (length l)) ≡ 1) → seen (at - boolByte (eqb at (length l)))
+      behind w =
+          let i : length l - 1 ≡ at - boolByte (eqb at (length l)) = omega arith in
+          let last : getD l (length l - 1) 0 < k = ⊎-elim (λ b. b) (λ b. absurd (omega (arith, rank-below k l (length l - 1) (omega arith) b))) (lt-or-ge (getD l (length l - 1) 0) k) in
+          let none : has k l ≡ false = sym (rw (le-ltb at (length l) (omega arith)) at stands-has) in
+          subst seen i (ne-eqb k (getD l (length l - 1) 0) (λ b. omega arith) ∙ sym none)
 
   pub there : stands k at l ≡ true → There k l
   there h = ⊎-elim (λ w. w) (λ w. not-both h (rw e (w .stood))) (look 0 k l a)
@@ -85,6 +113,11 @@ and-left false c h = h
 
 pub stands-inside : (k at : ℕ) (l : List ℕ) → stands k at l ≡ true → at < length l
 stands-inside k at l h = ltb-true at (length l) (and-left (ltb at (length l)) (eqb k (getD l at 0)) h)
+
+pub has-none : (k : ℕ) (l : List ℕ) → length l ≡ 0 → false ≡ has k l
+unfolding has
+has-none k [] e = refl
+has-none k (x ∷ l) e = absurd (omega arith)
 
 -- ---- how many keys there are afterwards
 pub there-length : (k : ℕ) (l : List ℕ) → There k l → length (cut k l) + 1 ≡ length l

@@ -51,5 +51,11 @@ pub fn stands_at(t: &[u64], at: usize, k: u64) -> bool
 pub fn contains(t: &[u64], k: u64) -> bool
     ensures { λ r. ⌜ (AscL 0 (now (t .entry)) → r ≡ has k (now (t .entry))) ⌝ }
 {
-    stands_at(t, place(t, k), k)
+    if t.len() == 0 {
+        return false;
+    }
+    let at = place(t, k);
+    // Where k would stand behind the last key, the last is looked at, which is below k: no branch hangs on it.
+    let i = at - (at == t.len()) as usize;
+    k == t[i]
 }

@@ -1,7 +1,6 @@
 -- `search::circle`: the walk over the circle's columns and rows. Assumes nothing.
 use borrow.Author.Needs.{needs}
 use Rattle.plane.specs.Values.{pt}
-use Rattle.question.specs.Walk.{found}
 use Rattle.question.proofs.TakenLaws.{circle-found}
 use Rattle.question.proofs.search.circle.Statement.{statement}
 use Rattle.question.proofs.search.circle.Tie as tie
@@ -24,7 +23,7 @@ returns c =
     let y = g .before in
     let x = y .before in
     let s = x .before .before .args in
-    λ a i. circle-found (s .size) (s .cells .now) i (found (c .first-round .result)) (x .around .result) (pt (s .p)) (y .around2 .result) (s .radius) (g .new .result) (x .around .ensures) (y .around2 .ensures) (g .new .ensures) (c .first-round .ensures a)
+    λ a i. circle-found (s .size) (s .cells .now) i (c .first-round .result) (x .around .result) (pt (s .p)) (y .around2 .result) (s .radius) (g .new .result) (x .around .ensures) (y .around2 .ensures) (g .new .ensures) (c .first-round .ensures a)
 
 pub circle-spec : {M : Type 1} → statement M
 circle-spec =

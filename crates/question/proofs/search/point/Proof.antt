@@ -1,9 +1,8 @@
 -- `search::point`: the point's cell is looked up. Assumes nothing.
 use native.Mathlib.Omega.{arith}
-use mathlib.Core.Path.{sym, _∙_}
 use borrow.Author.Needs.{needs}
 use Rattle.plane.specs.Values.{pt}
-use Rattle.question.proofs.TakenLaws.{column-small, point-none, point-there}
+use Rattle.question.proofs.TakenLaws.{column-small, point-found}
 use Rattle.question.proofs.search.point.Statement.{statement}
 use Rattle.question.proofs.search.point.Tie as tie
 
@@ -30,21 +29,16 @@ add-k c =
 contains-requires : tie.Need-contains-requires
 contains-requires c κs = search needs
 
+only-requires : tie.Need-only-requires
+only-requires c κs = search needs
+
 returns : tie.Need-returns
 returns c =
     let h = c .before in
     let v = h .before in
     let u = v .before .before in
     let s = u .before .before .before .args in
-    λ a. point-there (s .size) (s .cells .now) (pt (s .p)) (u .column-of .result) (v .column-of2 .result) (u .column-of .ensures) (v .column-of2 .ensures) (sym (h .contains .ensures a) ∙ c .if1 .taken)
-
-returns-2 : tie.Need-returns-2
-returns-2 c =
-    let h = c .before in
-    let v = h .before in
-    let u = v .before .before in
-    let s = u .before .before .before .args in
-    λ a. point-none (s .size) (s .cells .now) (pt (s .p)) (u .column-of .result) (v .column-of2 .result) (u .column-of .ensures) (v .column-of2 .ensures) (sym (h .contains .ensures a) ∙ c .if1 .left)
+    λ a. point-found (s .size) (s .cells .now) (pt (s .p)) (u .column-of .result) (v .column-of2 .result) (u .column-of .ensures) (v .column-of2 .ensures) (c .only .result) (h .contains .result) (h .contains .ensures a) (c .only .ensures)
 
 pub point-spec : {M : Type 1} → statement M
 point-spec =
@@ -55,5 +49,5 @@ point-spec =
     column-of-requires-2
     add-k
     contains-requires
-    returns
-    returns-2)
+    only-requires
+    returns)

@@ -5,7 +5,7 @@ use lib.Ieee.{lt, ofBits}
 use borrow.Author.Needs.{needs}
 use Rattle.model.specs.Plane.{minus, norm, tiny}
 use Rattle.plane.specs.Values.{pt}
-use Rattle.question.specs.Walk.{found}
+use Rattle.question.specs.Walk.{foundAs}
 use Rattle.question.proofs.TakenLaws.{sweep-found, sweep-short}
 use Rattle.question.proofs.search.sweep.Statement.{statement}
 use Rattle.question.proofs.search.sweep.Tie as tie
@@ -29,7 +29,7 @@ returns c =
     let n = c .before .before in
     let s = n .before .before .before .args in
     let t : lt (norm (minus (pt (s .p1)) (pt (s .p0)))) tiny ≡ true = rw (way n) at (c .before .if1 .taken) in
-    λ a i. c .point .ensures a ∙ sweep-short (s .size) (s .cells .now) (pt (s .p0)) (pt (s .p1)) (s .width) t
+    λ a i. c .point .ensures a ∙ ap foundAs (sweep-short (s .size) (s .cells .now) (pt (s .p0)) (pt (s .p1)) (s .width) t)
 
 new-requires : tie.Need-new-requires
 new-requires c κs = search needs
@@ -48,7 +48,7 @@ returns-2 c =
     let n = q .before .before in
     let s = n .before .before .before .args in
     let t : lt (norm (minus (pt (s .p1)) (pt (s .p0)))) tiny ≡ false = rw (way n) at (q .before .if1 .left) in
-    λ a i. sweep-found (s .size) (s .cells .now) i (found (c .first-swept .result)) (x .columns .result) (pt (s .p0)) (pt (s .p1)) (s .width) (q .new .result) t (unfold ofBits in (q .new .ensures (way n))) (x .columns .ensures) (c .first-swept .ensures a)
+    λ a i. sweep-found (s .size) (s .cells .now) i (c .first-swept .result) (x .columns .result) (pt (s .p0)) (pt (s .p1)) (s .width) (q .new .result) t (unfold ofBits in (q .new .ensures (way n))) (x .columns .ensures) (c .first-swept .ensures a)
 
 pub sweep-spec : {M : Type 1} → statement M
 sweep-spec =

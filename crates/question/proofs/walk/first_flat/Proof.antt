@@ -8,8 +8,8 @@ use borrow.Author.Needs.{needs}
 use Rattle.model.specs.Cell.{col, row}
 use Rattle.model.specs.Maps.{AscL, find}
 use Rattle.shape.specs.Bounds.{inBounds}
-use Rattle.question.specs.Walk.{flat, found, spotted, taken}
-use Rattle.question.proofs.WalkLaws.{answer, below, cell-here, column-here, column-next, column-past, column-some, find-past, low-beyond, place-passed, row-beyond}
+use Rattle.question.specs.Walk.{flat, keyed, taken}
+use Rattle.question.proofs.WalkLaws.{below, cell-here, column-here, column-next, column-past, column-some, find-past, low-beyond, place-passed, row-beyond}
 use Rattle.question.proofs.walk.first_flat.Statement.{statement}
 use Rattle.question.proofs.walk.first_flat.Tie as tie
 
@@ -37,12 +37,12 @@ returns : tie.Need-returns Inv-loop μ-loop
 returns c =
     let k = c .before .before in
     let s = k .before .args in
-    λ a. ap answer (low-beyond (s .columns) (flat (s .rows)) (s .cells .now) (omega arith) (λ i. k .shared-slice-known .given i .fits))
+    λ a. ap keyed (low-beyond (s .columns) (flat (s .rows)) (s .cells .now) (omega arith) (λ i. k .shared-slice-known .given i .fits))
 
 returns-2 : tie.Need-returns-2 Inv-loop μ-loop
 returns-2 c =
     let s = c .before .before .before .before .before .args in
-    λ a. ap answer (row-beyond (s .columns) (flat (s .rows)) (s .cells .now) (s .rows) (λ x. refl) (c .if2 .taken))
+    λ a. ap keyed (row-beyond (s .columns) (flat (s .rows)) (s .cells .now) (s .rows) (λ x. refl) (c .if2 .taken))
 
 mul-place : tie.Need-mul-place Inv-loop μ-loop
 mul-place c = omega arith
@@ -69,7 +69,7 @@ returns-3 : tie.Need-returns-3 Inv-loop μ-loop
 returns-3 c =
     let p = c .before .before .before .before in
     let s = start p .args in
-    λ a. ap answer (sym (p .loop .inv a ∙ column-past (s .columns .high) (flat (s .rows)) (s .cells .now) (p .loop .i) (omega arith) a (omega arith)))
+    λ a. ap keyed (sym (p .loop .inv a ∙ column-past (s .columns .high) (flat (s .rows)) (s .cells .now) (p .loop .i) (omega arith) a (omega arith)))
 
 in-rows-requires : tie.Need-in-rows-requires Inv-loop μ-loop
 in-rows-requires c κs = search needs
@@ -81,7 +81,7 @@ returns-4 c =
     let s = start p .args in
     let y = getD (s .cells .now) (p .loop .i) 0 in
     λ a.
-    ap answer
+    ap keyed
     (sym (p .loop .inv a
     ∙ cell-here (s .columns .high) (flat (s .rows)) (s .cells .now) (p .loop .i) (omega arith) a (omega arith) (and-true (inBounds (s .rows) (row y)) ∙ sym (r .in-rows .ensures) ∙ c .if4 .taken)))
 
@@ -103,23 +103,15 @@ column-requires c κs = search needs
 flat-in-requires : tie.Need-flat-in-requires Inv-loop μ-loop
 flat-in-requires c κs = search needs
 
-enum-told : tie.Need-enum-told Inv-loop μ-loop
-enum-told c = search needs
-
 returns-5 : tie.Need-returns-5 Inv-loop μ-loop
 returns-5 c =
-    let t = c .before .before in
+    let t = c .before in
     let p = test t in
     let s = start p .args in
     let k = t .before in
-    let w = c .enum-told .given in
     λ a.
-    ap answer
-    (sym (p .loop .inv a
-    ∙ column-here (s .columns .high) (flat (s .rows)) (s .cells .now) (p .loop .i) (inside t) a (k .column .result .now) (k .column .ensures) (below-high t) (found (t .flat-in .result)) (t .flat-in .ensures (col (getD (s .cells .now) (p .loop .i) 0))) (w .0 .0) (ap spotted (w .1))))
-
-enum-told-2 : tie.Need-enum-told-2 Inv-loop μ-loop
-enum-told-2 c = search needs
+    column-here (s .columns .high) (flat (s .rows)) (s .cells .now) (p .loop .i) (inside t) a (k .column .result .now) (k .column .ensures) (below-high t) (t .flat-in .result) (t .flat-in .ensures (col (getD (s .cells .now) (p .loop .i) 0))) (c .if5 .taken)
+    ∙ ap keyed (sym (p .loop .inv a))
 
 add-i : tie.Need-add-i Inv-loop μ-loop
 add-i c = omega arith
@@ -129,11 +121,11 @@ loop-less c = omega arith
 
 loop-again : tie.Need-loop-again Inv-loop μ-loop
 loop-again c =
-    let t = c .before .before .before in
+    let t = c .before .before in
     let p = test t in
     let s = start p .args in
     let k = t .before in
-    λ a. absurd (column-some (s .columns .high) (flat (s .rows)) (s .cells .now) (p .loop .i) (inside t) a (k .column .result .now) (k .column .ensures) (c .if5 .taken))
+    λ a. absurd (column-some (s .columns .high) (flat (s .rows)) (s .cells .now) (p .loop .i) (inside t) a (k .column .result .now) (k .column .ensures) (c .if6 .taken))
 
 add-i-2 : tie.Need-add-i-2 Inv-loop μ-loop
 add-i-2 c = omega arith
@@ -143,20 +135,19 @@ loop-less-2 c = omega arith
 
 loop-again-2 : tie.Need-loop-again-2 Inv-loop μ-loop
 loop-again-2 c =
-    let t = c .before .before .before in
+    let t = c .before .before in
     let p = test t in
     let s = start p .args in
     let k = t .before in
-    let w = c .before .enum-told2 .given in
     λ a.
     p .loop .inv a
-    ∙ column-next (s .columns .high) (flat (s .rows)) (s .cells .now) (p .loop .i) (inside t) a (k .column .result .now) (k .column .ensures) (below-high t) (found (t .flat-in .result)) (t .flat-in .ensures (col (getD (s .cells .now) (p .loop .i) 0))) (ap spotted (w .1))
+    ∙ column-next (s .columns .high) (flat (s .rows)) (s .cells .now) (p .loop .i) (inside t) a (k .column .result .now) (k .column .ensures) (below-high t) (t .flat-in .result) (t .flat-in .ensures (col (getD (s .cells .now) (p .loop .i) 0))) (c .before .if5 .left)
 
 returns-6 : tie.Need-returns-6 Inv-loop μ-loop
 returns-6 c =
     let p = c .before in
     let s = start p .args in
-    λ a. ap answer (sym (p .loop .inv a ∙ find-past (below (s .columns .high) (flat (s .rows))) (s .cells .now) (p .loop .i) (omega arith)))
+    λ a. ap keyed (sym (p .loop .inv a ∙ find-past (below (s .columns .high) (flat (s .rows))) (s .cells .now) (p .loop .i) (omega arith)))
 
 pub first-flat-spec : {M : Type 1} → statement M
 first-flat-spec =
@@ -181,9 +172,7 @@ first-flat-spec =
     part-column-end
     column-requires
     flat-in-requires
-    enum-told
     returns-5
-    enum-told-2
     add-i
     loop-less
     loop-again

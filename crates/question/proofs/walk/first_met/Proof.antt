@@ -6,8 +6,8 @@ use lib.ListN.{length, drop}
 use borrow.Author.Needs.{needs}
 use Rattle.model.specs.Maps.{find}
 use Rattle.shape.specs.declared.bounds.Bounds.{Bounds}
-use Rattle.question.specs.Walk.{round, rowTaken}
-use Rattle.question.proofs.WalkLaws.{answer, find-past, row-fails, row-passes, row-past}
+use Rattle.question.specs.Walk.{keyed, round, rowTaken}
+use Rattle.question.proofs.WalkLaws.{find-past, row-fails, row-passes, row-past}
 use Rattle.question.proofs.walk.first_met.Statement.{statement}
 use Rattle.question.proofs.walk.first_met.Tie as tie
 
@@ -30,7 +30,7 @@ returns : tie.Need-returns Inv-loop μ-loop
 returns c =
     let p = c .before .before .before in
     let s = p .before .before .args in
-    λ x b a o. ap answer (row-past (s .high) (round b (s .circle)) (s .rows .now) (p .loop .i) (omega arith) x a o (omega arith) (p .loop .inv b))
+    λ x b a o. ap keyed (row-past (s .high) (round b (s .circle)) (s .rows .now) (p .loop .i) (omega arith) x a o (omega arith) (p .loop .inv b))
 
 meets-requires : tie.Need-meets-requires Inv-loop μ-loop
 meets-requires c κs = search needs
@@ -40,7 +40,7 @@ returns-2 c =
     let q = c .before in
     let p = q .before .before .before .before in
     let s = p .before .before .args in
-    λ x b a o. ap answer (row-passes (s .high) (round b (s .circle)) (s .rows .now) (p .loop .i) (omega arith) (omega arith) (sym (q .meets .ensures) ∙ c .if2 .taken) (p .loop .inv b))
+    λ x b a o. ap keyed (row-passes (s .high) (round b (s .circle)) (s .rows .now) (p .loop .i) (omega arith) (omega arith) (sym (q .meets .ensures) ∙ c .if2 .taken) (p .loop .inv b))
 
 add-i : tie.Need-add-i Inv-loop μ-loop
 add-i c = omega arith
@@ -59,7 +59,7 @@ returns-3 : tie.Need-returns-3 Inv-loop μ-loop
 returns-3 c =
     let p = c .before in
     let s = p .before .before .args in
-    λ x b a o. ap answer (sym (p .loop .inv b ∙ find-past (rowTaken (s .high) (round b (s .circle))) (s .rows .now) (p .loop .i) (omega arith)))
+    λ x b a o. ap keyed (sym (p .loop .inv b ∙ find-past (rowTaken (s .high) (round b (s .circle))) (s .rows .now) (p .loop .i) (omega arith)))
 
 pub first-met-spec : {M : Type 1} → statement M
 first-met-spec =

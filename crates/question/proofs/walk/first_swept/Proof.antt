@@ -5,8 +5,8 @@ use mathlib.Core.Path.{_≡_, sym, ap, _∙_}
 use lib.ListN.{length, drop}
 use borrow.Author.Needs.{needs}
 use Rattle.model.specs.Maps.{AscL, find}
-use Rattle.question.specs.Walk.{found, spotted, swept, taken}
-use Rattle.question.proofs.WalkLaws.{answer, below, column-here, column-next, column-past, column-some, find-past, low-beyond, low-passed}
+use Rattle.question.specs.Walk.{keyed, swept, taken}
+use Rattle.question.proofs.WalkLaws.{below, column-here, column-next, column-past, column-some, find-past, low-beyond, low-passed}
 use Rattle.question.proofs.walk.first_swept.Statement.{statement}
 use Rattle.question.proofs.walk.first_swept.Tie as tie
 
@@ -27,7 +27,7 @@ returns : tie.Need-returns Inv-loop μ-loop
 returns c =
     let k = c .before .before in
     let s = k .before .args in
-    λ a. ap answer (low-beyond (s .columns) (swept (s .strip) (s .size)) (s .cells .now) (omega arith) (λ i. k .shared-slice-known .given i .fits))
+    λ a. ap keyed (low-beyond (s .columns) (swept (s .strip) (s .size)) (s .cells .now) (omega arith) (λ i. k .shared-slice-known .given i .fits))
 
 mul-place : tie.Need-mul-place Inv-loop μ-loop
 mul-place c = omega arith
@@ -50,7 +50,7 @@ returns-2 : tie.Need-returns-2 Inv-loop μ-loop
 returns-2 c =
     let p = c .before .before .before .before in
     let s = start p .args in
-    λ a. ap answer (sym (p .loop .inv a ∙ column-past (s .columns .high) (swept (s .strip) (s .size)) (s .cells .now) (p .loop .i) (omega arith) a (omega arith)))
+    λ a. ap keyed (sym (p .loop .inv a ∙ column-past (s .columns .high) (swept (s .strip) (s .size)) (s .cells .now) (p .loop .i) (omega arith) a (omega arith)))
 
 mul-column : tie.Need-mul-column Inv-loop μ-loop
 mul-column c = omega arith
@@ -70,23 +70,15 @@ column-requires c κs = search needs
 swept-in-requires : tie.Need-swept-in-requires Inv-loop μ-loop
 swept-in-requires c κs = search needs
 
-enum-told : tie.Need-enum-told Inv-loop μ-loop
-enum-told c = search needs
-
 returns-3 : tie.Need-returns-3 Inv-loop μ-loop
 returns-3 c =
-    let t = c .before .before in
+    let t = c .before in
     let p = test t in
     let s = start p .args in
     let k = t .before in
-    let w = c .enum-told .given in
     λ a.
-    ap answer
-    (sym (p .loop .inv a
-    ∙ column-here (s .columns .high) (swept (s .strip) (s .size)) (s .cells .now) (p .loop .i) (omega arith) a (k .column .result .now) (k .column .ensures) (omega arith) (found (t .swept-in .result)) (t .swept-in .ensures) (w .0 .0) (ap spotted (w .1))))
-
-enum-told-2 : tie.Need-enum-told-2 Inv-loop μ-loop
-enum-told-2 c = search needs
+    column-here (s .columns .high) (swept (s .strip) (s .size)) (s .cells .now) (p .loop .i) (omega arith) a (k .column .result .now) (k .column .ensures) (omega arith) (t .swept-in .result) (t .swept-in .ensures) (c .if3 .taken)
+    ∙ ap keyed (sym (p .loop .inv a))
 
 add-i : tie.Need-add-i Inv-loop μ-loop
 add-i c = omega arith
@@ -96,7 +88,7 @@ loop-less c = omega arith
 
 loop-again : tie.Need-loop-again Inv-loop μ-loop
 loop-again c =
-    let t = c .before .before .before in
+    let t = c .before .before in
     let p = test t in
     let s = start p .args in
     let k = t .before in
@@ -110,20 +102,19 @@ loop-less-2 c = omega arith
 
 loop-again-2 : tie.Need-loop-again-2 Inv-loop μ-loop
 loop-again-2 c =
-    let t = c .before .before .before in
+    let t = c .before .before in
     let p = test t in
     let s = start p .args in
     let k = t .before in
-    let w = c .before .enum-told2 .given in
     λ a.
     p .loop .inv a
-    ∙ column-next (s .columns .high) (swept (s .strip) (s .size)) (s .cells .now) (p .loop .i) (omega arith) a (k .column .result .now) (k .column .ensures) (omega arith) (found (t .swept-in .result)) (t .swept-in .ensures) (ap spotted (w .1))
+    ∙ column-next (s .columns .high) (swept (s .strip) (s .size)) (s .cells .now) (p .loop .i) (omega arith) a (k .column .result .now) (k .column .ensures) (omega arith) (t .swept-in .result) (t .swept-in .ensures) (c .before .if3 .left)
 
 returns-4 : tie.Need-returns-4 Inv-loop μ-loop
 returns-4 c =
     let p = c .before in
     let s = start p .args in
-    λ a. ap answer (sym (p .loop .inv a ∙ find-past (below (s .columns .high) (swept (s .strip) (s .size))) (s .cells .now) (p .loop .i) (omega arith)))
+    λ a. ap keyed (sym (p .loop .inv a ∙ find-past (below (s .columns .high) (swept (s .strip) (s .size))) (s .cells .now) (p .loop .i) (omega arith)))
 
 pub first-swept-spec : {M : Type 1} → statement M
 first-swept-spec =
@@ -144,9 +135,7 @@ first-swept-spec =
     part-column-end
     column-requires
     swept-in-requires
-    enum-told
     returns-3
-    enum-told-2
     add-i
     loop-less
     loop-again
