@@ -72,41 +72,42 @@ added-listed l a a′ b b′ r p =
     let e : 0 + length l ≡ length l = omega arith in
     record { count = p .count ∙ e; cells = rw e at (p .cells); numbers = rw e at (p .numbers) }
 
--- ---- the nine of a window, one after another: d of them are looked at
-pub record Nine (f : ℕ → List (ℕ × ℕ)) (a a′ b b′ : List ℕ) (n m d : ℕ) : Type 0 where
-  pub few : d ≤ 9
+-- ---- one by one: d of `most` are looked at, and f says what each adds, if H holds
+pub record Gathering (H : Type 0) (most : ℕ) (f : ℕ → List (ℕ × ℕ)) (a a′ b b′ : List ℕ) (n m d : ℕ) : Type 0 where
+  pub few : d ≤ most
   pub up : m ≤ n + d
   pub cells : length a′ ≡ length a
   pub numbers : length b′ ≡ length b
-  pub added : Added (gathered f d) a a′ b b′ n m
+  pub added : H → Added (gathered f d) a a′ b b′ n m
 
-pub nine-none : (f : ℕ → List (ℕ × ℕ)) (a b : List ℕ) (n : ℕ) → Nine f a a b b n n 0
-unfolding gathered
-nine-none f a b n = record { few = omega arith; up = omega arith; cells = refl; numbers = refl; added = added-none a b n }
-
-module _ (f : ℕ → List (ℕ × ℕ)) (a a′ b b′ : List ℕ) (n m d : ℕ) (more : d < 9) (ra : n + 9 ≤ length a) (rb : n + 9 ≤ length b) (s : Nine f a a′ b b′ n m d) where
-  next : (l : List (ℕ × ℕ)) → f d ≡ l → (a″ b″ : List ℕ) (r : ℕ) → Added l a′ a″ b′ b″ m r → Added (gathered f (d + 1)) a a″ b b″ n r
+module _ (H : Type 0) (most : ℕ) (f : ℕ → List (ℕ × ℕ)) (a b : List ℕ) (n : ℕ) where
+  pub gathering-none : Gathering H most f a a b b n n 0
   unfolding gathered
-  next l e a″ b″ r q =
-      rw (add-one d, e) (added-then (gathered f d) l a a′ a″ b b′ b″ n m r (s .added) q (omega (arith, s .up)) (omega (arith, s .up)))
+  gathering-none = record { few = omega arith; up = omega arith; cells = refl; numbers = refl; added = λ t. added-none a b n }
 
-  pub nine-put : (k v : ℕ) → f d ≡ (k, v) ∷ [] → Nine f a (set a′ m k) b (set b′ m v) n (m + 1) (d + 1)
-  nine-put k v e = record {
-    few = omega arith;
-    up = omega (arith, s .up);
-    cells = length-set a′ m k ∙ s .cells;
-    numbers = length-set b′ m v ∙ s .numbers;
-    added = next ((k, v) ∷ []) e (set a′ m k) (set b′ m v) (m + 1) (added-one a′ b′ m k v (omega (arith, s .up, s .cells)) (omega (arith, s .up, s .numbers)));
-  }
+  module _ (a′ b′ : List ℕ) (m d : ℕ) (more : d < most) (ra : n + most ≤ length a) (rb : n + most ≤ length b) (s : Gathering H most f a a′ b b′ n m d) where
+    next : (l : List (ℕ × ℕ)) → (H → f d ≡ l) → (a″ b″ : List ℕ) (r : ℕ) → Added l a′ a″ b′ b″ m r → H → Added (gathered f (d + 1)) a a″ b b″ n r
+    unfolding gathered
+    next l e a″ b″ r q t =
+        rw (add-one d, e t) (added-then (gathered f d) l a a′ a″ b b′ b″ n m r (s .added t) q (omega (arith, s .up)) (omega (arith, s .up)))
 
-  pub nine-pass : f d ≡ [] → Nine f a a′ b b′ n m (d + 1)
-  nine-pass e = record {
-    few = omega arith;
-    up = omega (arith, s .up);
-    cells = s .cells;
-    numbers = s .numbers;
-    added = next [] e a′ b′ m (added-none a′ b′ m);
-  }
+    pub gathering-put : (k v : ℕ) → (H → f d ≡ (k, v) ∷ []) → Gathering H most f a (set a′ m k) b (set b′ m v) n (m + 1) (d + 1)
+    gathering-put k v e = record {
+      few = omega arith;
+      up = omega (arith, s .up);
+      cells = length-set a′ m k ∙ s .cells;
+      numbers = length-set b′ m v ∙ s .numbers;
+      added = next ((k, v) ∷ []) e (set a′ m k) (set b′ m v) (m + 1) (added-one a′ b′ m k v (omega (arith, s .up, s .cells)) (omega (arith, s .up, s .numbers)));
+    }
+
+    pub gathering-pass : (H → f d ≡ []) → Gathering H most f a a′ b b′ n m (d + 1)
+    gathering-pass e = record {
+      few = omega arith;
+      up = omega (arith, s .up);
+      cells = s .cells;
+      numbers = s .numbers;
+      added = next [] e a′ b′ m (added-none a′ b′ m);
+    }
 
 -- ---- the d-th of the nine, as the code reads its bit
 module _ (low fresh sw se nw ne d : ℕ) where

@@ -1,5 +1,6 @@
 -- The laws of crate `corner`.
 pub mod AddedLaws
+pub mod CellsLaws
 pub mod ChangeLaws
 pub mod CornersLaws
 pub mod MetLaws

@@ -86,7 +86,8 @@ pub fn corner_changes(cells: &[u64], turned: &[u64], out: &mut [u64], statuses: 
         → 9 * length (now (turned .entry)) ≤ length (now (out .entry)) → 9 * length (now (turned .entry)) ≤ length (now (statuses .entry))
         → Listed (numbered (cornerChanges (now (cells .entry)) C ch)) (now (out .entry)) (now (out .exit)) (now (statuses .entry)) (now (statuses .exit)) r)
         × (length (now (out .entry)) < 9 * length (now (turned .entry)) → Unlisted (now (out .entry)) (now (out .exit)) (now (statuses .entry)) (now (statuses .exit)) r)
-        × (length (now (statuses .entry)) < 9 * length (now (turned .entry)) → Unlisted (now (out .entry)) (now (out .exit)) (now (statuses .entry)) (now (statuses .exit)) r) ⌝ }
+        × (length (now (statuses .entry)) < 9 * length (now (turned .entry)) → Unlisted (now (out .entry)) (now (out .exit)) (now (statuses .entry)) (now (statuses .exit)) r)
+        × (r ≤ 9 * length (now (turned .entry))) ⌝ }
 {
     let room = 9 * turned.len();
     if out.len() < room {

@@ -1,4 +1,5 @@
-// Corners of occupied cells: a cell's status, and the statuses that a batch altered.
+// Corners of occupied cells: a cell's status, the cells that have a corner, and the statuses that a batch altered.
+pub mod cells;
 pub mod changes;
 pub mod status;
 mod window;

@@ -3,6 +3,7 @@
 // an ascending one.
 pub mod change;
 pub mod column;
+pub mod copy;
 mod look;
 pub mod place;
 pub mod places;

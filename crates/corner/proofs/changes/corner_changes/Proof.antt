@@ -1,5 +1,5 @@
 -- `changes::corner_changes`: what each turned cell adds, one after another. Assumes nothing.
-use Prim.Native.Nat.{_-_}
+use Prim.Native.Nat.{_-_, zero-le}
 use native.Mathlib.Omega.{arith}
 use mathlib.Core.Path.{refl}
 use lib.ListN.{length}
@@ -22,6 +22,7 @@ returns c =
       λ ch C e t a b i ra rb. absurd (omega arith),
       λ h. record { count = refl; cells = refl; numbers = refl },
       λ h. record { count = refl; cells = refl; numbers = refl },
+      zero-le,
     )
 
 returns-2 : tie.Need-returns-2 Inv-loop μ-loop
@@ -30,6 +31,7 @@ returns-2 c =
       λ ch C e t a b i ra rb. absurd (omega arith),
       λ h. record { count = refl; cells = refl; numbers = refl },
       λ h. record { count = refl; cells = refl; numbers = refl },
+      zero-le,
     )
 
 loop-holds : tie.Need-loop-holds Inv-loop μ-loop
@@ -70,6 +72,7 @@ returns-3 c =
       λ ch C e t ca ka i ra rb. sofar-all (a .cells .now) (a .turned .now) (a .out .now) (l .out) (a .statuses .now) (l .statuses) (l .n) (l .i) (c .loop-test .left) (l .inv) ch C e (record { turned = t; cells = ca; turns = ka; inner = i }),
       λ h. absurd (omega (arith, o .before .if1 .left)),
       λ h. absurd (omega (arith, o .if2 .left)),
+      omega (arith, l .inv .up, l .inv .few),
     )
 
 pub corner-changes-spec : {M : Type 1} → statement M

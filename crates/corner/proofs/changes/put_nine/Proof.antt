@@ -4,12 +4,12 @@ use native.Mathlib.Omega.{arith}
 use mathlib.Core.Path.{_≡_}
 use mathlib.Core.Logic.{⊎-elim}
 use Rattle.corner.specs.Window.{innerCell, pickedAt}
-use Rattle.corner.proofs.AddedLaws.{Nine, nine-none, nine-put, nine-pass, picked-some, picked-none}
+use Rattle.corner.proofs.AddedLaws.{Gathering, gathering-none, gathering-pass, gathering-put, picked-none, picked-some}
 use Rattle.corner.proofs.changes.put_nine.Statement.{statement}
 use Rattle.corner.proofs.changes.put_nine.Tie as tie
 
 abbrev Inv-loop : tie.InvT-loop
-Inv-loop low fresh w out₀ statuses₀ n m₀ d₀ out statuses m d = Nine (pickedAt low fresh (w .sw) (w .se) (w .nw) (w .ne)) out₀ out statuses₀ statuses n m d
+Inv-loop low fresh w out₀ statuses₀ n m₀ d₀ out statuses m d = Gathering (Unit {0}) 9 (pickedAt low fresh (w .sw) (w .se) (w .nw) (w .ne)) out₀ out statuses₀ statuses n m d
 
 abbrev μ-loop : tie.MeasureT-loop
 μ-loop low fresh w out₀ statuses₀ n m₀ d₀ out statuses m d = 9 - d
@@ -17,7 +17,7 @@ abbrev μ-loop : tie.MeasureT-loop
 loop-holds : tie.Need-loop-holds Inv-loop μ-loop
 loop-holds c =
     let a = c .before .before .args in
-    nine-none (pickedAt (a .low) (a .fresh) (a .w .sw) (a .w .se) (a .w .nw) (a .w .ne)) (a .out .now) (a .statuses .now) (a .n)
+    gathering-none (Unit {0}) 9 (pickedAt (a .low) (a .fresh) (a .w .sw) (a .w .se) (a .w .nw) (a .w .ne)) (a .out .now) (a .statuses .now) (a .n)
 
 mul-c : tie.Need-mul-c Inv-loop μ-loop
 mul-c c = omega arith
@@ -75,10 +75,10 @@ loop-again c =
     ⊎-elim
     (λ w.
     rw (w .2, w .3, w .4)
-    (nine-put f (a .out .now) (l .out) (a .statuses .now) (l .statuses) (a .n) (l .m) (l .d) more (room .1) (room .2) (l .inv) (innerCell (a .low) (l .d)) (w .1 .result) (rw (w .1 .ensures) (picked-some (a .low) (a .fresh) (a .w .sw) (a .w .se) (a .w .nw) (a .w .ne) (l .d) (w .0 .taken)))))
+    (gathering-put (Unit {0}) 9 f (a .out .now) (a .statuses .now) (a .n) (l .out) (l .statuses) (l .m) (l .d) more (room .1) (room .2) (l .inv) (innerCell (a .low) (l .d)) (w .1 .result) (λ t. rw (w .1 .ensures) (picked-some (a .low) (a .fresh) (a .w .sw) (a .w .se) (a .w .nw) (a .w .ne) (l .d) (w .0 .taken)))))
     (λ w.
     rw (w .1, w .2, w .3)
-    (nine-pass f (a .out .now) (l .out) (a .statuses .now) (l .statuses) (a .n) (l .m) (l .d) more (room .1) (room .2) (l .inv) (picked-none (a .low) (a .fresh) (a .w .sw) (a .w .se) (a .w .nw) (a .w .ne) (l .d) (w .0 .left))))
+    (gathering-pass (Unit {0}) 9 f (a .out .now) (a .statuses .now) (a .n) (l .out) (l .statuses) (l .m) (l .d) more (room .1) (room .2) (l .inv) (λ t. picked-none (a .low) (a .fresh) (a .w .sw) (a .w .se) (a .w .nw) (a .w .ne) (l .d) (w .0 .left))))
     (c .if1 .came)
 
 same-length : tie.Need-same-length Inv-loop μ-loop
@@ -91,7 +91,7 @@ returns : tie.Need-returns Inv-loop μ-loop
 returns c =
     let l = c .before .loop in
     let e : l .d ≡ 9 = omega arith in
-    (omega (arith, l .inv .up), rw e at (l .inv .added))
+    (omega (arith, l .inv .up), rw e at (l .inv .added tt))
 
 pub put-nine-spec : {M : Type 1} → statement M
 put-nine-spec =

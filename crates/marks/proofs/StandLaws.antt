@@ -1,0 +1,110 @@
+-- The marks of a cell and of many, one after another, and the keys that they bring. Assumes nothing.
+use Prim.Native.Nat.{ℕ, zero, suc, _+_, _*_, _≤_, _<_}
+use native.Mathlib.Nat.{le-refl, le-trans}
+use native.Mathlib.Numerals.{add-one}
+use native.Mathlib.Omega.{arith}
+use mathlib.Core.Path.{_≡_, refl, sym, ap, _∙_}
+use mathlib.Core.Bool.{Bool, true, false, cond}
+use mathlib.Core.List.{List, [], _∷_, _++_}
+use lib.Dec.{eqb, ltb}
+use lib.ListN.{length, take, drop, getD, take-append-drop}
+use lib.Seq.{take-suc}
+use Rattle.corner.specs.Changes.{numbered}
+use Rattle.model.specs.Cell.{move}
+use Rattle.model.specs.ClosedForm.{stand}
+use Rattle.model.specs.Corner.{Bits, bit, number, zero4}
+use Rattle.model.specs.Layer.{Mark, marks, marksOf}
+use Rattle.model.specs.Maps.{add, keys}
+use Rattle.table.specs.Listed.{values}
+use Rattle.marks.specs.Marked.{dirAt}
+
+-- ---- the marks
+-- the d-th of a cell's four
+abbrev pub markAt : ℕ → ℕ → Bits → ℕ → Mark
+markAt s k b d = record { dir = dirAt d; at = move s (dirAt d) k; on = bit (dirAt d) b }
+
+marks-suc : (s k : ℕ) (b : Bits) (d : ℕ) → d < 4 → take (suc d) (marksOf s k b) ≡ take d (marksOf s k b) ++ (markAt s k b d ∷ [])
+marks-suc s k b zero h = refl
+marks-suc s k b (suc zero) h = refl
+marks-suc s k b (suc (suc zero)) h = refl
+marks-suc s k b (suc (suc (suc zero))) h = refl
+marks-suc s k b (suc (suc (suc (suc d)))) h = absurd (omega arith)
+
+pub marks-next : (s k : ℕ) (b : Bits) (d : ℕ) → d < 4 → take (d + 1) (marksOf s k b) ≡ take d (marksOf s k b) ++ (markAt s k b d ∷ [])
+marks-next s k b d h = rw (add-one d) (marks-suc s k b d h)
+
+marks-append : (s : ℕ) (cs ds : List (ℕ × Bits)) → marks s (cs ++ ds) ≡ marks s cs ++ marks s ds
+unfolding marks
+marks-append s [] ds = refl
+marks-append s (c ∷ cs) ds = ap (λ (r : List Mark). marksOf s (c .0) (c .1) ++ r) (marks-append s cs ds)
+
+pub marks-split : (s i : ℕ) (cs : List (ℕ × Bits)) → marks s cs ≡ marks s (take i cs) ++ marks s (drop i cs)
+marks-split s i cs = ap (marks s) (sym (take-append-drop i cs)) ∙ marks-append s (take i cs) (drop i cs)
+
+abbrev pub cellAt : List (ℕ × Bits) → ℕ → ℕ × Bits
+cellAt cs i = getD cs i (0, zero4)
+
+pub marks-more : (s i : ℕ) (cs : List (ℕ × Bits)) → i < length cs → marks s (take (i + 1) cs) ≡ marks s (take i cs) ++ marksOf s (cellAt cs i .0) (cellAt cs i .1)
+unfolding marks
+marks-more s i cs h = rw (add-one i, take-suc cs i (0, zero4) h) (marks-append s (take i cs) (cellAt cs i ∷ []))
+
+pub marks-length : (s : ℕ) (cs : List (ℕ × Bits)) → length (marks s cs) ≡ 4 * length cs
+unfolding marks
+marks-length s [] = refl
+marks-length s (c ∷ cs) = let e = marks-length s cs in omega arith
+
+-- ---- the cells as they are lent
+pub keys-at : (cs : List (ℕ × Bits)) (i : ℕ) → getD (keys cs) i 0 ≡ cellAt cs i .0
+unfolding keys
+keys-at [] i = refl
+keys-at (c ∷ cs) zero = refl
+keys-at (c ∷ cs) (suc i) = keys-at cs i
+
+pub numbers-at : (cs : List (ℕ × Bits)) (i : ℕ) → getD (values (numbered cs)) i 0 ≡ number (cellAt cs i .1)
+unfolding number
+numbers-at [] i = refl
+numbers-at (c ∷ cs) zero = refl
+numbers-at (c ∷ cs) (suc i) = numbers-at cs i
+
+-- ---- the keys
+pub stand-append : (ms ns : List Mark) (K : List ℕ) → stand (ms ++ ns) K ≡ stand ns (stand ms K)
+unfolding stand
+stand-append [] ns K = refl
+stand-append (m ∷ ms) ns K = stand-append ms ns (cond (m .on) (add (m .at) K) K)
+
+pub stand-one : (m : Mark) (K : List ℕ) → stand (m ∷ []) K ≡ cond (m .on) (add (m .at) K) K
+unfolding stand
+stand-one m K = refl
+
+add-grows : (k : ℕ) (K : List ℕ) → length K ≤ length (add k K)
+unfolding add
+add-grows k [] = omega arith
+add-grows k (x ∷ l) = go (eqb k x) (ltb k x) (add-grows k l)
+  where
+    go : (b c : Bool) → length l ≤ length (add k l) → suc (length l) ≤ length (cond b (x ∷ l) (cond c (k ∷ x ∷ l) (x ∷ add k l)))
+    go true c ih = le-refl (suc (length l))
+    go false true ih = omega arith
+    go false false ih = omega arith
+
+pub add-few : (k : ℕ) (K : List ℕ) → length (add k K) ≤ length K + 1
+unfolding add
+add-few k [] = omega arith
+add-few k (x ∷ l) = go (eqb k x) (ltb k x) (add-few k l)
+  where
+    go : (b c : Bool) → length (add k l) ≤ length l + 1 → length (cond b (x ∷ l) (cond c (k ∷ x ∷ l) (x ∷ add k l))) ≤ suc (length l) + 1
+    go true c ih = omega arith
+    go false true ih = omega arith
+    go false false ih = omega arith
+
+pub stand-grows : (ms : List Mark) (K : List ℕ) → length K ≤ length (stand ms K)
+unfolding stand
+stand-grows [] K = le-refl (length K)
+stand-grows (m ∷ ms) K = go (m .on) (stand-grows ms (add (m .at) K)) (stand-grows ms K)
+  where
+    go : (b : Bool) → length (add (m .at) K) ≤ length (stand ms (add (m .at) K)) → length K ≤ length (stand ms K) → length K ≤ length (stand ms (cond b (add (m .at) K) K))
+    go true p q = le-trans (add-grows (m .at) K) p
+    go false p q = q
+
+-- what stands on the way is among what stands in the end
+pub stand-part : (s i : ℕ) (cs : List (ℕ × Bits)) (K : List ℕ) → length (stand (marks s (take i cs)) K) ≤ length (stand (marks s cs) K)
+stand-part s i cs K = rw (marks-split s i cs, stand-append (marks s (take i cs)) (marks s (drop i cs)) K) (stand-grows (marks s (drop i cs)) (stand (marks s (take i cs)) K))

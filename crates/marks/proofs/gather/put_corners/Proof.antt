@@ -1,0 +1,80 @@
+-- `gather::put_corners`: the four marks one after another. Assumes nothing.
+use Prim.Native.Nat.{_-_}
+use native.Mathlib.Omega.{arith}
+use mathlib.Core.Path.{_≡_, ap, _∙_}
+use mathlib.Core.Logic.{⊎-elim}
+use Rattle.model.specs.Cell.{Dir}
+use Rattle.model.specs.Corner.{Bits, bit, number}
+use Rattle.marks.specs.Marked.{dirAt}
+use Rattle.marks.proofs.GatherLaws.{Put, put-none, put-pass, put-more, put-done}
+use Rattle.marks.proofs.gather.put_corners.Statement.{statement}
+use Rattle.marks.proofs.gather.put_corners.Tie as tie
+
+abbrev Inv-loop : tie.InvT-loop
+Inv-loop t₀ n k status s bits used₀ d₀ t used d = Put t₀ t n used d k status s
+
+abbrev μ-loop : tie.MeasureT-loop
+μ-loop t₀ n k status s bits used₀ d₀ t used d = 4 - d
+
+loop-holds : tie.Need-loop-holds Inv-loop μ-loop
+loop-holds c = let a = c .before .args in put-none (a .t .now) (a .n) (a .k) (a .status) (a .s)
+
+corner-at-requires : tie.Need-corner-at-requires Inv-loop μ-loop
+corner-at-requires c κs = tt
+
+get-requires : tie.Need-get-requires Inv-loop μ-loop
+get-requires c κs = tt
+
+shifted-requires : tie.Need-shifted-requires Inv-loop μ-loop
+shifted-requires c κs = c .before .before .before .before .before .before .before .pre
+
+insert-requires : tie.Need-insert-requires Inv-loop μ-loop
+insert-requires c κs = tt
+
+add-d : tie.Need-add-d Inv-loop μ-loop
+add-d c = omega arith
+
+loop-less : tie.Need-loop-less Inv-loop μ-loop
+loop-less c = omega arith
+
+loop-again : tie.Need-loop-again Inv-loop μ-loop
+loop-again c =
+    let g = c .before in
+    let k = g .before in
+    let p = k .before .before in
+    let l = p .loop in
+    let a = p .before .before .args in
+    let more = k .before .loop-test .taken in
+    let seen : (b : Bits) → a .status ≡ number b → g .get .result ≡ bit (dirAt (l .d)) b = λ b e. g .get .ensures b e ∙ ap (λ (d : Dir). bit d b) (k .corner-at .ensures) in
+    ⊎-elim
+    (λ w.
+    rw (w .6, w .7)
+    (put-more (a .t .now) (l .t) (a .n) (l .used) (l .d) (a .k) (a .status) (a .s) more (l .inv) (g .get .result) seen (w .0 .taken) (w .2 .result) (w .2 .ensures) (w .3 .last .0) (w .3 .result) (w .3 .kept .0) (w .3 .ensures)))
+    (λ w. rw (w .1, w .2) (put-pass (a .t .now) (l .t) (a .n) (l .used) (l .d) (a .k) (a .status) (a .s) more (l .inv) (g .get .result) seen (w .0 .left)))
+    (c .if1 .came)
+
+same-length : tie.Need-same-length Inv-loop μ-loop
+same-length c = c .before .loop .inv .long
+
+returns : tie.Need-returns Inv-loop μ-loop
+returns c =
+    let l = c .before .loop in
+    let a = c .before .before .before .args in
+    put-done (a .t .now) (l .t) (a .n) (l .used) (l .d) (a .k) (a .status) (a .s) (c .loop-test .left) (l .inv)
+
+pub put-corners-spec : {M : Type 1} → statement M
+put-corners-spec =
+    tie.close
+    (tie.spec
+    Inv-loop
+    μ-loop
+    loop-holds
+    corner-at-requires
+    get-requires
+    shifted-requires
+    insert-requires
+    add-d
+    loop-less
+    loop-again
+    same-length
+    returns)

@@ -1,0 +1,81 @@
+-- `run::begin`: key by key. Assumes nothing.
+use Prim.Native.Nat.{_-_}
+use native.Mathlib.Omega.{arith}
+use lib.ListN.{length, getD}
+use Rattle.marks.specs.Standing.{begun}
+use Rattle.marks.proofs.BeginLaws.{Begun, begun-none, begun-more, begun-done}
+use Rattle.marks.proofs.run.begin.Statement.{statement}
+use Rattle.marks.proofs.run.begin.Tie as tie
+
+abbrev Inv-loop : tie.InvT-loop
+Inv-loop points statuses ks moods₀ i₀ moods i = Begun points statuses ks moods₀ moods i
+
+abbrev μ-loop : tie.MeasureT-loop
+μ-loop points statuses ks moods₀ i₀ moods i = length ks - i
+
+loop-holds : tie.Need-loop-holds Inv-loop μ-loop
+loop-holds c =
+    let o = c .before .before .before .before in
+    begun-none (o .args .points .now) (o .args .statuses .now) (o .args .ks .now) (o .args .moods .now) (o .pre .2)
+
+mul-begin-at : tie.Need-mul-begin-at Inv-loop μ-loop
+mul-begin-at c = omega arith
+
+shared-slice-read-begin-at : tie.Need-shared-slice-read-begin-at Inv-loop μ-loop
+shared-slice-read-begin-at c = omega arith
+
+begin-at-requires : tie.Need-begin-at-requires Inv-loop μ-loop
+begin-at-requires c κs = omega arith
+
+word-requires : tie.Need-word-requires Inv-loop μ-loop
+word-requires c κs = let r = c .begin-at .ensures in (r .0, r .1, omega (arith, r .2))
+
+mul-moods : tie.Need-mul-moods Inv-loop μ-loop
+mul-moods c = omega arith
+
+slice-write-moods : tie.Need-slice-write-moods Inv-loop μ-loop
+slice-write-moods c = omega arith
+
+add-i : tie.Need-add-i Inv-loop μ-loop
+add-i c = omega arith
+
+loop-less : tie.Need-loop-less Inv-loop μ-loop
+loop-less c = omega arith
+
+loop-again : tie.Need-loop-again Inv-loop μ-loop
+loop-again c =
+    let t = c .before .before .before in
+    let p = t .before in
+    let l = p .loop in
+    let a = p .before .before .before .before .before .args in
+    begun-more (a .points .now) (a .statuses .now) (a .ks .now) (a .moods .now) (l .moods) (l .i) (l .inv) (t .loop-test .taken) (c .word .result)
+    (λ ps e v o. c .word .ensures (begun ps (getD (a .ks .now) (l .i) 0)) (c .before .begin-at .ensures .3 ps e v o))
+
+same-length : tie.Need-same-length Inv-loop μ-loop
+same-length c = c .before .loop .inv .long
+
+returns : tie.Need-returns Inv-loop μ-loop
+returns c =
+    let p = c .before in
+    let l = p .loop in
+    let a = p .before .before .before .before .before .args in
+    begun-done (a .points .now) (a .statuses .now) (a .ks .now) (a .moods .now) (l .moods) (l .i) (l .inv) (c .loop-test .left)
+
+pub begin-spec : {M : Type 1} → statement M
+begin-spec =
+    tie.close
+    (tie.spec
+    Inv-loop
+    μ-loop
+    loop-holds
+    mul-begin-at
+    shared-slice-read-begin-at
+    begin-at-requires
+    word-requires
+    mul-moods
+    slice-write-moods
+    add-i
+    loop-less
+    loop-again
+    same-length
+    returns)

@@ -1,0 +1,113 @@
+-- `run::mark`: the word at the key's place is set, where the key stands there. Assumes nothing.
+use Prim.Native.Nat.{ℕ, _<_}
+use native.Mathlib.Omega.{arith}
+use mathlib.Core.Path.{_≡_, refl, sym, ap, _∙_}
+use mathlib.Core.Bool.{true}
+use mathlib.Core.List.{List}
+use lib.ListN.{length, getD, length-set}
+use Rattle.corner.specs.Corners.{dir}
+use Rattle.table.specs.Tables.{stands}
+use Rattle.table.proofs.LookLaws.{stands-inside}
+use Rattle.marks.specs.declared.mood.Mood.{Mood}
+use Rattle.marks.specs.Standing.{Small, Standing, marked, mood, words}
+use Rattle.marks.proofs.WordsLaws.{marked-none, marked-word, stands-read}
+use borrow.Author.Needs.{needs}
+use Rattle.marks.proofs.run.mark.Statement.{statement}
+use Rattle.marks.proofs.run.mark.Tie as tie
+
+place-requires : tie.Need-place-requires
+place-requires c κs = search needs
+
+stands-at-requires : tie.Need-stands-at-requires
+stands-at-requires c κs = search needs
+
+mul-of-word : tie.Need-mul-of-word
+mul-of-word c = search needs
+
+abbrev start : tie.Then1 → tie.Start
+start c = c .before .before .before .before .before
+
+seen : (c : tie.Then1) → stands (start c .args .k) (c .before .before .place .result) (start c .args .ks .now) ≡ true
+seen c = sym (c .before .stands-at .ensures) ∙ c .if1 .taken
+
+within : (c : tie.Then1) → c .before .before .place .result < length (start c .args .ks .now)
+within c = stands-inside (start c .args .k) (c .before .before .place .result) (start c .args .ks .now) (seen c)
+
+-- the word that is read
+abbrev Was : (c : tie.After-of-word) → Type 0
+Was c =
+    let a = start (c .before .before) .args in
+    (f : ℕ → Standing) → ((x : ℕ) → Small (f x)) → a .moods .now ≡ words f (a .ks .now) → c .of-word .result ≡ mood (f (a .k))
+
+was : (c : tie.After-of-word) → Was c
+was c =
+    λ f s e.
+    let t = c .before .before in
+    let a = start t .args in
+    let at = t .before .before .place .result in
+    c .of-word .ensures .2 (f (a .k)) (s (a .k)) (ap (λ (l : List ℕ). getD l at 0) e ∙ stands-read f (a .k) at (a .ks .now) (seen t))
+
+slice-read-of-word : tie.Need-slice-read-of-word
+slice-read-of-word c = omega (arith, within (c .before))
+
+of-word-requires : tie.Need-of-word-requires
+of-word-requires c κs = search needs
+
+marked-requires : tie.Need-marked-requires
+marked-requires c κs = search needs
+
+word-requires : tie.Need-word-requires
+word-requires c κs = let r = c .marked .ensures in (r .0, r .1, r .2)
+
+mul-moods : tie.Need-mul-moods
+mul-moods c = search needs
+
+slice-write-moods : tie.Need-slice-write-moods
+slice-write-moods c = omega (arith, within (c .before .before .before .before .before .before))
+
+same-length : tie.Need-same-length
+same-length c = search needs
+
+returns : tie.Need-returns
+returns c =
+    let r = c .before .before .before .before in
+    let t = r .before .before in
+    let a = start t .args in
+    let p = t .before .before .place in (
+      length-set (a .moods .now) (p .result) (c .word .result),
+      λ f o s e.
+          let m = marked (a .n) (record { dir = dir (a .corner); at = a .k; on = a .on }) (f (a .k)) in
+          marked-word (a .n) (record { dir = dir (a .corner); at = a .k; on = a .on }) f (a .ks .now) (a .moods .now) (p .result) o (p .ensures .1 o) e (seen t) (c .word .result)
+          (c .word .ensures m (c .before .marked .ensures .3 (f (a .k)) (a .k) (was r f s e))),
+    )
+
+returns-2 : tie.Need-returns-2
+returns-2 c =
+    let r = c .before .before in
+    let k = start (r .before .before) .args .k in
+    (refl, λ f o s e. let z : r .of-word .result .first ≡ f k .first = ap (λ (m : Mood). m .first) (was r f s e) in absurd (omega (arith, c .if2 .left, s k .1)))
+
+returns-3 : tie.Need-returns-3
+returns-3 c =
+    let q = c .before .before in
+    let a = q .before .before .before .args in
+    let p = q .place in
+    (refl, λ f o s e. marked-none (a .n) (record { dir = dir (a .corner); at = a .k; on = a .on }) f (a .ks .now) (a .moods .now) (p .result) o (p .ensures .1 o) e (sym (c .before .stands-at .ensures) ∙ c .if1 .left))
+
+pub mark-spec : {M : Type 1} → statement M
+mark-spec =
+    tie.close
+    (tie.spec
+    place-requires
+    stands-at-requires
+    mul-of-word
+    slice-read-of-word
+    of-word-requires
+    marked-requires
+    word-requires
+    mul-moods
+    slice-write-moods
+    same-length
+    returns
+    returns-2
+    returns-3)

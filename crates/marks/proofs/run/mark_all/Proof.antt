@@ -1,0 +1,77 @@
+-- `run::mark_all`: cell by cell. Assumes nothing.
+use Prim.Native.Nat.{_-_}
+use native.Mathlib.Omega.{arith}
+use lib.ListN.{length}
+use Rattle.marks.proofs.RunLaws.{Made, made-none, made-more, made-done}
+use Rattle.marks.proofs.run.mark_all.Statement.{statement}
+use Rattle.marks.proofs.run.mark_all.Tie as tie
+
+abbrev Inv-loop : tie.InvT-loop
+Inv-loop ks moods₀ corners statuses s i₀ moods i = Made ks moods₀ moods corners statuses s i
+
+abbrev μ-loop : tie.MeasureT-loop
+μ-loop ks moods₀ corners statuses s i₀ moods i = length corners - i
+
+loop-holds : tie.Need-loop-holds Inv-loop μ-loop
+loop-holds c =
+    let a = c .before .before .before .before .args in
+    made-none (a .ks .now) (a .moods .now) (a .corners .now) (a .statuses .now) (a .s)
+
+mul-mark-corners : tie.Need-mul-mark-corners Inv-loop μ-loop
+mul-mark-corners c = omega arith
+
+shared-slice-read-mark-corners : tie.Need-shared-slice-read-mark-corners Inv-loop μ-loop
+shared-slice-read-mark-corners c = omega arith
+
+shared-slice-read-mark-corners-2 : tie.Need-shared-slice-read-mark-corners-2 Inv-loop μ-loop
+shared-slice-read-mark-corners-2 c = omega arith
+
+mul-mark-corners-2 : tie.Need-mul-mark-corners-2 Inv-loop μ-loop
+mul-mark-corners-2 c = omega arith
+
+mark-corners-requires : tie.Need-mark-corners-requires Inv-loop μ-loop
+mark-corners-requires c κs = omega arith
+
+add-i : tie.Need-add-i Inv-loop μ-loop
+add-i c = omega arith
+
+loop-less : tie.Need-loop-less Inv-loop μ-loop
+loop-less c = omega arith
+
+loop-again : tie.Need-loop-again Inv-loop μ-loop
+loop-again c =
+    let r = c .before .before .mark-corners in
+    let t = c .before .before .before .before .before .before in
+    let p = t .before in
+    let l = p .loop in
+    let o = p .before .before .before .before .before in
+    let a = o .args in
+    made-more (a .ks .now) (a .moods .now) (l .moods) (a .corners .now) (a .statuses .now) (a .s) (l .i) (l .inv) (t .loop-test .taken) (o .pre .3) (r .last .1 .0) (r .kept .1 .0) (r .ensures .1)
+
+same-length : tie.Need-same-length Inv-loop μ-loop
+same-length c = c .before .loop .inv .long
+
+returns : tie.Need-returns Inv-loop μ-loop
+returns c =
+    let p = c .before in
+    let l = p .loop in
+    let a = p .before .before .before .before .before .args in
+    (l .inv .long, made-done (a .ks .now) (a .moods .now) (l .moods) (a .corners .now) (a .statuses .now) (a .s) (l .i) (l .inv) (c .loop-test .left))
+
+pub mark-all-spec : {M : Type 1} → statement M
+mark-all-spec =
+    tie.close
+    (tie.spec
+    Inv-loop
+    μ-loop
+    loop-holds
+    mul-mark-corners
+    shared-slice-read-mark-corners
+    shared-slice-read-mark-corners-2
+    mul-mark-corners-2
+    mark-corners-requires
+    add-i
+    loop-less
+    loop-again
+    same-length
+    returns)

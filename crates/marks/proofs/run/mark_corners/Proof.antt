@@ -1,0 +1,83 @@
+-- `run::mark_corners`: the four marks one after another. Assumes nothing.
+use Prim.Native.Nat.{_-_}
+use native.Mathlib.Omega.{arith}
+use mathlib.Core.Path.{ap, _∙_}
+use Rattle.corner.specs.Corners.{dir}
+use Rattle.model.specs.Cell.{Dir}
+use Rattle.model.specs.Corner.{bit}
+use Rattle.marks.proofs.RunLaws.{Four, four-none, four-more, four-done}
+use Rattle.marks.proofs.run.mark_corners.Statement.{statement}
+use Rattle.marks.proofs.run.mark_corners.Tie as tie
+
+abbrev Inv-loop : tie.InvT-loop
+Inv-loop ks moods₀ k status s n bits d₀ moods d = Four ks moods₀ moods k status s n d
+
+abbrev μ-loop : tie.MeasureT-loop
+μ-loop ks moods₀ k status s n bits d₀ moods d = 4 - d
+
+loop-holds : tie.Need-loop-holds Inv-loop μ-loop
+loop-holds c =
+    let a = c .before .before .args in
+    four-none (a .ks .now) (a .moods .now) (a .k) (a .status) (a .s) (a .n)
+
+corner-at-requires : tie.Need-corner-at-requires Inv-loop μ-loop
+corner-at-requires c κs = tt
+
+shifted-requires : tie.Need-shifted-requires Inv-loop μ-loop
+shifted-requires c κs = omega arith
+
+get-requires : tie.Need-get-requires Inv-loop μ-loop
+get-requires c κs = tt
+
+add-mark : tie.Need-add-mark Inv-loop μ-loop
+add-mark c = omega arith
+
+mark-requires : tie.Need-mark-requires Inv-loop μ-loop
+mark-requires c κs = omega arith
+
+add-d : tie.Need-add-d Inv-loop μ-loop
+add-d c = omega arith
+
+loop-less : tie.Need-loop-less Inv-loop μ-loop
+loop-less c = omega arith
+
+loop-again : tie.Need-loop-again Inv-loop μ-loop
+loop-again c =
+    let r = c .before .before .mark in
+    let g = c .before .before .before in
+    let h = g .before in
+    let k = h .before .before in
+    let p = k .before .before in
+    let l = p .loop in
+    let o = p .before .before .before in
+    let a = o .args in
+    four-more (a .ks .now) (a .moods .now) (l .moods) (a .k) (a .status) (a .s) (a .n) (l .d) (l .inv) (k .before .loop-test .taken) (o .pre .2) (dir (k .corner-at .result)) (k .corner-at .ensures) (h .shifted .result) (h .shifted .ensures) (g .get .result)
+    (λ b e. g .get .ensures b e ∙ ap (λ (d : Dir). bit d b) (k .corner-at .ensures)) (r .last .1 .0) (r .kept .1 .0) (r .ensures .1)
+
+same-length : tie.Need-same-length Inv-loop μ-loop
+same-length c = c .before .loop .inv .long
+
+returns : tie.Need-returns Inv-loop μ-loop
+returns c =
+    let p = c .before in
+    let l = p .loop in
+    let a = p .before .before .before .args in
+    (l .inv .long, four-done (a .ks .now) (a .moods .now) (l .moods) (a .k) (a .status) (a .s) (a .n) (l .d) (l .inv) (c .loop-test .left))
+
+pub mark-corners-spec : {M : Type 1} → statement M
+mark-corners-spec =
+    tie.close
+    (tie.spec
+    Inv-loop
+    μ-loop
+    loop-holds
+    corner-at-requires
+    shifted-requires
+    get-requires
+    add-mark
+    mark-requires
+    add-d
+    loop-less
+    loop-again
+    same-length
+    returns)

@@ -1,0 +1,3 @@
+-- What the contracts of crate `marks` cite.
+pub mod Marked
+pub mod Standing

@@ -1,0 +1,5 @@
+-- What the contracts of crate `sight` cite.
+pub mod Blocked
+pub mod Codes
+pub mod Paired
+pub mod Rows

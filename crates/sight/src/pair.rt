@@ -1,0 +1,267 @@
+// What blocks the pairs.
+use crate::tests::sweep_between;
+use corner::status::Corner;
+use corner::status::CornerStatus;
+use marks::mood::Mood;
+use plane::cell::centre;
+use segment::line::LineSegment;
+use segment::many::NearTest;
+use segment::near::Proximity;
+ghost use mathlib.Core.Path.{_≡_};
+ghost use mathlib.Core.Option.{Option, none};
+ghost use Prim.Native.Nat.{ℕ, _+_, _*_, _<_, _≤_};
+ghost use lib.ListN.{length};
+ghost use Rattle.corner.specs.Corners.{dir};
+ghost use Rattle.grid.specs.Batches.{flags};
+ghost use Rattle.marks.specs.Standing.{Standing, mood, sooner};
+ghost use Rattle.model.specs.Batch.{Batch};
+ghost use Rattle.model.specs.Corner.{Bits, number, quadrant, sees};
+ghost use Rattle.model.specs.Good.{Inside};
+ghost use Rattle.model.specs.Layer.{edgeRun};
+ghost use Rattle.model.specs.Limits.{maxCoordinate, maxPoints};
+ghost use Rattle.model.specs.Map.{tests};
+ghost use Rattle.model.specs.Maps.{AscL, keys};
+ghost use Rattle.segment.specs.Near.{IsProximity};
+ghost use Rattle.table.specs.Listed.{values};
+ghost use Rattle.table.specs.Tables.{All};
+ghost use Rattle.sight.specs.Blocked.{Seeing, Stood};
+ghost use Rattle.sight.specs.Codes.{Named, blockCode, pairCode};
+ghost use Rattle.sight.specs.Paired.{Filled, Pairs, PairsNamed, oldPair, pairAt, pairBetween, pairPlaces, pairStart};
+ghost use Rattle.sight.specs.Rows.{upTo};
+
+// The corner of the signs of q - p, where neither is zero.
+fn quadrant(p: u64, q: u64) -> Corner
+    ensures { λ r. ⌜ dir r ≡ quadrant p q ⌝ }
+{
+    let north = p % 4294967296 < q % 4294967296;
+    if p / 4294967296 < q / 4294967296 {
+        if north {
+            return Corner::Northeast;
+        }
+        return Corner::Southeast;
+    }
+    if north {
+        return Corner::Northwest;
+    }
+    Corner::Southwest
+}
+
+// Whether p lies in the visible quadrant of q, which has this status.
+fn sees(p: u64, q: u64, status: u8) -> bool
+    ensures { λ r. ⌜ ((b : Bits) → status ≡ number b → r ≡ sees p q b) ⌝ }
+{
+    if p / 4294967296 == q / 4294967296 {
+        return true;
+    }
+    if p % 4294967296 == q % 4294967296 {
+        return true;
+    }
+    let bits = CornerStatus { bits: status };
+    !bits.get(quadrant(p, q))
+}
+
+// Whether a point was queued before another, told from the first marks that queued them.
+fn is_sooner(a: u64, b: u64) -> bool
+    ensures { λ r. ⌜ r ≡ sooner a b ⌝ }
+{
+    if a == 0 {
+        return false;
+    }
+    if b == 0 {
+        return true;
+    }
+    a < b
+}
+
+// The pair of two old points as the old table has it, 0 where there is none.
+fn old_pair(old: &[u64], a: u64, b: u64) -> u64
+    ensures { λ r. ⌜ ((P : ℕ → ℕ → Option (Option ℕ)) (w v : Standing) → Pairs P (now (old .entry)) → pairPlaces ≤ length (now (old .entry)) → a ≡ w .old → b ≡ v .old → a ≤ maxPoints → b ≤ maxPoints → r ≡ pairCode (oldPair P w v)) ⌝ }
+{
+    if a == 0 || b == 0 || 64 < a || 64 < b {
+        return 0;
+    }
+    let at = (64 * (a - 1) + (b - 1)) as usize;
+    if at < old.len() {
+        return old[at];
+    }
+    0
+}
+
+// The pair (p, q) that `start` blocks (0 for none), after the changes in turn: a cell that the segment passes near becomes the
+// blocker, and freeing the blocker repeats the sweep.
+fn run_pair(
+    size: f64,
+    radius: f64,
+    reach: Proximity,
+    cells: &[u64],
+    turned: &[u64],
+    full: &[u8],
+    p: u64,
+    q: u64,
+    start: u64,
+) -> u64
+    requires { ⌜ length (now turned) ≤ length (now full) ⌝ }
+    ensures { λ r. ⌜ ((ch : Batch) (o : Option ℕ) → AscL 0 (now (cells .entry)) → All (Inside maxCoordinate) (now (cells .entry)) → All (Inside maxCoordinate) (keys ch) → now (turned .entry) ≡ keys ch → now (full .entry) ≡ values (flags ch)
+        → IsProximity size radius reach → start ≡ blockCode o → Named o → r ≡ blockCode (edgeRun (tests size radius) (now (cells .entry)) p q ch o)) ⌝ }
+{
+    if turned.len() == 0 {
+        return start;
+    }
+    let test = NearTest::new(LineSegment::new(centre(p, size), centre(q, size)), reach);
+    let mut block = start;
+    let mut i = 0;
+    while i < turned.len() {
+        let c = turned[i];
+        if full[i] == 0 {
+            if block == c {
+                block = sweep_between(size, radius, cells, p, q);
+            }
+        } else if test.passes(c) {
+            block = c;
+        }
+        i += 1;
+    }
+    block
+}
+
+// Where the blocker of the pair p < q begins, 0 for none: with the old one, or with the sweep from the end that was queued first.
+fn start_pair(
+    size: f64,
+    radius: f64,
+    cells: &[u64],
+    old: &[u64],
+    p: u64,
+    was: Mood,
+    q: u64,
+    other: Mood,
+) -> u64
+    ensures { λ r. ⌜ ((P : ℕ → ℕ → Option (Option ℕ)) (w v : Standing) → AscL 0 (now (cells .entry)) → All (Inside maxCoordinate) (now (cells .entry)) → Pairs P (now (old .entry)) → PairsNamed P → pairPlaces ≤ length (now (old .entry))
+        → was ≡ mood w → other ≡ mood v → w .old ≤ maxPoints → v .old ≤ maxPoints → r ≡ blockCode (pairStart (tests size radius) (now (cells .entry)) P p w q v)) ⌝ }
+{
+    let held = old_pair(old, was.old, other.old);
+    if held == 1 {
+        return 0;
+    }
+    if held != 0 {
+        return held;
+    }
+    if is_sooner(was.first, other.first) {
+        return sweep_between(size, radius, cells, p, q);
+    }
+    sweep_between(size, radius, cells, q, p)
+}
+
+// The pair p < q as the table has it.
+fn pair_between(
+    size: f64,
+    radius: f64,
+    reach: Proximity,
+    cells: &[u64],
+    turned: &[u64],
+    full: &[u8],
+    old: &[u64],
+    p: u64,
+    was: Mood,
+    q: u64,
+    other: Mood,
+) -> u64
+    requires { ⌜ length (now turned) ≤ length (now full) ⌝ }
+    ensures { λ r. ⌜ ((ch : Batch) (P : ℕ → ℕ → Option (Option ℕ)) (w v : Standing) → AscL 0 (now (cells .entry)) → All (Inside maxCoordinate) (now (cells .entry)) → All (Inside maxCoordinate) (keys ch) → now (turned .entry) ≡ keys ch → now (full .entry) ≡ values (flags ch)
+        → IsProximity size radius reach → Pairs P (now (old .entry)) → PairsNamed P → pairPlaces ≤ length (now (old .entry)) → was ≡ mood w → other ≡ mood v → w .old ≤ maxPoints → v .old ≤ maxPoints
+        → r ≡ pairCode (pairBetween (tests size radius) (now (cells .entry)) ch P p w q v)) ⌝ }
+{
+    if !sees(p, q, other.bits) {
+        return 0;
+    }
+    if !sees(q, p, was.bits) {
+        return 0;
+    }
+    let start = start_pair(size, radius, cells, old, p, was, q, other);
+    let block = run_pair(size, radius, reach, cells, turned, full, p, q, start);
+    if block == 0 { 1 } else { block }
+}
+
+// The pairs of the i-th point with those after it, from both ends.
+fn join_row(
+    size: f64,
+    radius: f64,
+    reach: Proximity,
+    cells: &[u64],
+    turned: &[u64],
+    full: &[u8],
+    points: &[u64],
+    moods: &[u64],
+    old: &[u64],
+    i: usize,
+    out: &mut [u64],
+)
+    requires { ⌜ (length (now turned) ≤ length (now full)) × (length (now points) ≤ length (now moods)) × (length (now points) ≤ 64) × (i < length (now points)) × (4096 ≤ length (now out)) ⌝ }
+    ensures { λ r. ⌜ ((ch : Batch) (S : Stood) (P : ℕ → ℕ → Option (Option ℕ)) → Seeing (now (cells .entry)) ch S (now (turned .entry)) (now (full .entry)) (now (points .entry)) (now (moods .entry)) → IsProximity size radius reach
+        → Pairs P (now (old .entry)) → PairsNamed P → pairPlaces ≤ length (now (old .entry)) → Pairs (upTo (64 * i) (pairAt (tests size radius) (now (cells .entry)) ch P S)) (now (out .entry))
+        → Filled (upTo (64 * (i + 1)) (pairAt (tests size radius) (now (cells .entry)) ch P S)) (now (out .entry)) (now (out .exit))) ⌝ }
+{
+    let p = points[i];
+    let was = Mood::of_word(moods[i]);
+    let mut j = i + 1;
+    while j < points.len() {
+        let other = Mood::of_word(moods[j]);
+        let pair = pair_between(
+            size,
+            radius,
+            reach,
+            cells,
+            turned,
+            full,
+            old,
+            p,
+            was,
+            points[j],
+            other,
+        );
+        out[64 * i + j] = pair;
+        out[64 * j + i] = pair;
+        j += 1;
+    }
+}
+
+// Writes every pair of the points to an empty table, from both ends. Nothing is written where a list is short.
+pub fn join_pairs(
+    size: f64,
+    radius: f64,
+    cells: &[u64],
+    turned: &[u64],
+    full: &[u8],
+    points: &[u64],
+    moods: &[u64],
+    old: &[u64],
+    out: &mut [u64],
+)
+    ensures { λ r. ⌜ ((ch : Batch) (S : Stood) (P : ℕ → ℕ → Option (Option ℕ)) → Seeing (now (cells .entry)) ch S (now (turned .entry)) (now (full .entry)) (now (points .entry)) (now (moods .entry)) → Pairs P (now (old .entry)) → PairsNamed P
+        → pairPlaces ≤ length (now (old .entry)) → pairPlaces ≤ length (now (out .entry)) → length S ≤ maxPoints → Pairs (λ i j. none) (now (out .entry))
+        → Filled (pairAt (tests size radius) (now (cells .entry)) ch P S) (now (out .entry)) (now (out .exit))) ⌝ }
+{
+    if full.len() < turned.len() || moods.len() < points.len() {
+        return;
+    }
+    if 64 < points.len() || out.len() < 4096 {
+        return;
+    }
+    let reach = Proximity::new(size, radius);
+    let mut i = 0;
+    while i < points.len() {
+        join_row(
+            size,
+            radius,
+            reach,
+            cells,
+            turned,
+            full,
+            points,
+            moods,
+            old,
+            i,
+            out,
+        );
+        i += 1;
+    }
+}

@@ -1,0 +1,50 @@
+// The float tests of a cell size and a radius, between centres, with what they find as a number: a key, or 0.
+use plane::cell::centre;
+use question::search::Question;
+use question::search::search;
+ghost use mathlib.Core.Path.{_≡_};
+ghost use mathlib.Core.Bool.{_&&_};
+ghost use lib.Dec.{leb};
+ghost use Rattle.model.specs.Cell.{apart, col, row};
+ghost use Rattle.model.specs.Good.{Inside};
+ghost use Rattle.model.specs.Limits.{maxCoordinate};
+ghost use Rattle.model.specs.Map.{tests};
+ghost use Rattle.model.specs.Maps.{AscL};
+ghost use Rattle.table.specs.Tables.{All};
+ghost use Rattle.sight.specs.Codes.{blockCode};
+
+// The square of width 2r at the centre of k.
+pub(crate) fn square_at(size: f64, radius: f64, cells: &[u64], k: u64) -> u64
+    ensures { λ r. ⌜ (AscL 0 (now (cells .entry)) → All (Inside maxCoordinate) (now (cells .entry)) → r ≡ blockCode (tests size radius .square (now (cells .entry)) k .cell)) ⌝ }
+{
+    let found = search(size, cells, Question::Square(centre(k, size), 2.0 * radius));
+    found.key
+}
+
+// The sweep of width 2r from the centre of p to that of q.
+pub(crate) fn sweep_between(size: f64, radius: f64, cells: &[u64], p: u64, q: u64) -> u64
+    ensures { λ r. ⌜ (AscL 0 (now (cells .entry)) → All (Inside maxCoordinate) (now (cells .entry)) → r ≡ blockCode (tests size radius .sweep (now (cells .entry)) p q .cell)) ⌝ }
+{
+    let found = search(
+        size,
+        cells,
+        Question::Sweep(centre(p, size), centre(q, size), 2.0 * radius),
+    );
+    found.key
+}
+
+fn difference(a: u64, b: u64) -> u64
+    ensures { λ r. ⌜ r ≡ apart a b ⌝ }
+{
+    if a < b { b - a } else { a - b }
+}
+
+// Whether two cells are at most `reach` apart on both axes.
+pub(crate) fn near_by(a: u64, b: u64, reach: u64) -> bool
+    ensures { λ r. ⌜ r ≡ (leb (apart (col a) (col b)) reach && leb (apart (row a) (row b)) reach) ⌝ }
+{
+    if difference(a / 4294967296, b / 4294967296) <= reach {
+        return difference(a % 4294967296, b % 4294967296) <= reach;
+    }
+    false
+}

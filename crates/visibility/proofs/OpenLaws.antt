@@ -1,0 +1,192 @@
+-- Opening a map: its refusals in their order, and the cleared tables, which hold a fresh map. Assumes nothing.
+use Prim.Native.Nat.{ℕ, suc, _≤_, _<_, zero-le}
+use native.Mathlib.Omega.{arith}
+use mathlib.Core.Path.{_≡_, refl, sym, ap, _∙_}
+use mathlib.Core.Bool.{Bool, true, false, cond, _||_, true≢false}
+use mathlib.Core.List.{List, [], _∷_, _++_}
+use lib.Dec.{ltb}
+use lib.Ieee.{Float}
+use lib.ListN.{List·getD-append, drop, getD, getD-replicate, length, length-append, length-drop, length-replicate, replicate, take}
+use lib.Seq.{drop-append-seam, length-take-le}
+use borrow.Author.Tests.{le-ltb, ltb-false}
+use Rattle.grid.proofs.FloorLaws.{holds-none}
+use Rattle.model.proofs.RunLaws.{Sound, open-sound}
+use Rattle.model.specs.Limits.{maxCells, maxPoints}
+use Rattle.model.specs.Map.{emptyLayer, fresh}
+use Rattle.model.specs.Maps.{keys}
+use Rattle.model.specs.Refusal.{badRadius, badSize, firstOf, opened, refuseOpen, short, verdict}
+use Rattle.sight.specs.Paired.{Pairs, pairPlace, pairPlaces}
+use Rattle.visibility.specs.Holds.{Tables, needs}
+use Rattle.visibility.specs.Layers.{HoldsLayer, edgeAt}
+use Rattle.visibility.specs.Open.{Opening, refusedWith}
+use Rattle.visibility.specs.declared.map.Outcome.{Outcome}
+
+-- ---- where no table is short, each has its need
+abbrev pub Enough : List (ℕ × ℕ) → Type 0
+Enough [] = Unit {0}
+Enough (b ∷ l) = (b .1 ≤ b .0) × Enough l
+
+pub long-enough : (l : List (ℕ × ℕ)) → short l ≡ false → Enough l
+unfolding short
+long-enough [] e = tt
+long-enough (b ∷ l) e = go (ltb (b .0) (b .1)) refl e (long-enough l)
+  where
+    go : (x : Bool) → ltb (b .0) (b .1) ≡ x → x || short l ≡ false → (short l ≡ false → Enough l) → (b .1 ≤ b .0) × Enough l
+    go true h z ih = absurd (true≢false z)
+    go false h z ih = (ltb-false (b .0) (b .1) h, ih z)
+
+-- ---- the refusals in turn
+module _ (l : List (ℕ × ℕ)) (c r : Float) where
+  in-turn : refuseOpen l c r ≡ cond (short l) 9 (cond (badSize c) 1 (cond (badRadius c r) 2 0))
+  unfolding refuseOpen verdict firstOf
+  in-turn = refl
+
+  pub open-short : short l ≡ true → 9 ≡ refuseOpen l c r
+  open-short e = sym (in-turn ∙ rw e refl)
+
+  module _ (e : short l ≡ false) where
+    pub open-size : badSize c ≡ true → 1 ≡ refuseOpen l c r
+    open-size f = sym (in-turn ∙ rw (e, f) refl)
+
+    module _ (f : badSize c ≡ false) where
+      pub open-radius : badRadius c r ≡ true → 2 ≡ refuseOpen l c r
+      open-radius g = sym (in-turn ∙ rw (e, f, g) refl)
+
+      pub open-passes : badRadius c r ≡ false → 0 ≡ refuseOpen l c r
+      open-passes g = sym (in-turn ∙ rw (e, f, g) refl)
+
+-- a refused opening leaves the tables as they were
+pub open-refused : (c r : Float) (t : Tables) (n : ℕ) (o : Outcome) → o ≡ refusedWith (suc n) → suc n ≡ refuseOpen (needs t) c r → Opening c r t t o
+open-refused c r t n o e h =
+    record {
+      refusal = number ∙ h;
+      refused = λ k z. (refl, e ∙ ap refusedWith (sym number ∙ z));
+      answer = λ z. absurd (apart z);
+      holds = λ z. absurd (apart z);
+      behind = λ z. absurd (apart z);
+    }
+  where
+    number : o .refusal ≡ suc n
+    number = ap (λ (w : Outcome). w .refusal) e
+
+    apart : o .refusal ≡ 0 → ⊥
+    apart z = let k : suc n ≡ 0 = sym number ∙ z in omega arith
+
+-- ---- a table cleared up to its need
+abbrev cleared : ℕ → List ℕ → List ℕ
+cleared n t = replicate n 0 ++ drop n t
+
+cleared-is : (n : ℕ) (t u : List ℕ) → n ≤ length t → u ≡ replicate (length (take n t)) 0 → u ++ drop n t ≡ cleared n t
+cleared-is n t u h e = rw (e, length-take-le n t h) refl
+
+cleared-behind : (n : ℕ) (t : List ℕ) → drop n (cleared n t) ≡ drop n t
+cleared-behind n t =
+    let z : List ℕ = replicate n 0 in
+    ap (λ (k : ℕ). drop k (cleared n t)) (sym (length-replicate {A = ℕ} n 0)) ∙ drop-append-seam z (drop n t)
+
+cleared-length : (n : ℕ) (t : List ℕ) → n ≤ length t → length (cleared n t) ≡ length t
+cleared-length n t h = simp (length-append, length-replicate, length-drop) (omega arith)
+
+-- zeros up to the need
+cleared-pad : (n : ℕ) (t : List ℕ) → cleared n t ≡ replicate n 0 ++ drop n (cleared n t)
+cleared-pad n t = ap (λ (u : List ℕ). replicate n 0 ++ u) (sym (cleared-behind n t))
+
+cleared-at : (n : ℕ) (t : List ℕ) (i : ℕ) → i < n → getD (cleared n t) i 0 ≡ 0
+cleared-at n t i h =
+    let z : List ℕ = replicate n 0 in
+    let l : i < length z = rw (length-replicate {A = ℕ} n 0) h in
+    List·getD-append z (drop n t) 0 i l ∙ getD-replicate n i 0 0 h
+
+cleared-pairs : (r : Float) (t : List ℕ) → Pairs (edgeAt (emptyLayer r)) (cleared pairPlaces t)
+unfolding edgeAt
+cleared-pairs r t i j hi hj =
+    let h : pairPlace i j < pairPlaces = omega arith in
+    rw (le-ltb i 0 zero-le) (cleared-at pairPlaces t (pairPlace i j) h)
+
+-- ---- the tables of a fresh map
+abbrev clearedTables : Tables → Tables
+clearedTables t =
+    record {
+      cells = cleared maxCells (t .cells);
+      points = cleared maxPoints (t .points);
+      statuses = cleared maxPoints (t .statuses);
+      blockers = cleared maxPoints (t .blockers);
+      pairs = cleared pairPlaces (t .pairs);
+    }
+
+fresh-sound : (c r : Float) → refuseOpen [] c r ≡ 0 → Sound (fresh c r)
+unfolding opened
+fresh-sound c r e = rw e at (open-sound c r)
+
+fresh-layer : (r : Float) (t : Tables) → pairPlaces ≤ length (t .pairs)
+    → HoldsLayer (cleared maxPoints (t .points)) (cleared maxPoints (t .statuses)) (cleared maxPoints (t .blockers)) (cleared pairPlaces (t .pairs)) 0 (emptyLayer r)
+unfolding keys
+fresh-layer r t h =
+    record {
+      count = refl;
+      room = zero-le;
+      keysAre = cleared-pad maxPoints (t .points);
+      statusesAre = cleared-pad maxPoints (t .statuses);
+      blocksAre = cleared-pad maxPoints (t .blockers);
+      pairsRoom = rw (cleared-length pairPlaces (t .pairs) h) h;
+      pairsAre = cleared-pairs r (t .pairs);
+    }
+
+module _ (c r : Float) (t : Tables) (e : short (needs t) ≡ false) (f : badSize c ≡ false) (g : badRadius c r ≡ false) where
+  all-cleared : Opening c r t (clearedTables t) (record { refusal = 0; map = record { size = c; radius = r; cells = 0; points = 0 } })
+  all-cleared =
+      record {
+        refusal = open-passes (needs t) c r e f g;
+        refused = λ n z. absurd (apart n z);
+        answer = λ z. refl;
+        holds = λ z. record {
+          size = refl;
+          radius = refl;
+          cells = holds-none (drop maxCells (t .cells));
+          layer = fresh-layer r t room;
+          good = fresh-sound c r (sym (open-passes [] c r none-short f g));
+        };
+        behind = λ z. record {
+          cells = cleared-behind maxCells (t .cells);
+          points = cleared-behind maxPoints (t .points);
+          statuses = cleared-behind maxPoints (t .statuses);
+          blockers = cleared-behind maxPoints (t .blockers);
+          pairs = cleared-behind pairPlaces (t .pairs);
+          pairsLong = cleared-length pairPlaces (t .pairs) room;
+        };
+      }
+    where
+      apart : (n : ℕ) → 0 ≡ suc n → ⊥
+      apart n z = omega arith
+
+      room : pairPlaces ≤ length (t .pairs)
+      room = long-enough (needs t) e .1 .1 .1 .1 .0
+
+      none-short : short [] ≡ false
+      none-short = unfold short in refl
+
+  -- an accepted opening: each table's first places, filled with zeros
+  pub open-done : (cells points statuses blockers pairs : List ℕ)
+      → cells ≡ replicate (length (take maxCells (t .cells))) 0
+      → points ≡ replicate (length (take maxPoints (t .points))) 0
+      → statuses ≡ replicate (length (take maxPoints (t .statuses))) 0
+      → blockers ≡ replicate (length (take maxPoints (t .blockers))) 0
+      → pairs ≡ replicate (length (take pairPlaces (t .pairs))) 0
+      → Opening c r t
+      (record {
+        cells = cells ++ drop maxCells (t .cells);
+        points = points ++ drop maxPoints (t .points);
+        statuses = statuses ++ drop maxPoints (t .statuses);
+        blockers = blockers ++ drop maxPoints (t .blockers);
+        pairs = pairs ++ drop pairPlaces (t .pairs);
+      })
+      (record { refusal = 0; map = record { size = c; radius = r; cells = 0; points = 0 } })
+  open-done cells points statuses blockers pairs u v w x y =
+      let room = long-enough (needs t) e in
+      rw (
+        cleared-is maxCells (t .cells) cells (room .0) u,
+        cleared-is maxPoints (t .points) points (room .1 .0) v,
+        cleared-is maxPoints (t .statuses) statuses (room .1 .1 .0) w,
+        cleared-is maxPoints (t .blockers) blockers (room .1 .1 .1 .0) x,
+        cleared-is pairPlaces (t .pairs) pairs (room .1 .1 .1 .1 .0) y,
+      ) all-cleared

@@ -1,0 +1,143 @@
+-- A layer's tables drawn anew, from what each step leaves. Assumes nothing.
+use Prim.Native.Nat.{ℕ, zero, suc, _+_, _-_, _≤_, _<_, zero-le}
+use native.Mathlib.Nat.{le-of-suc-le-suc, not-suc-le-zero}
+use native.Mathlib.Omega.{arith}
+use mathlib.Core.Path.{_≡_, refl, sym, ap, _∙_}
+use mathlib.Core.List.{List, [], _∷_, _++_}
+use mathlib.Core.Option.{Option, none}
+use lib.ListN.{length, take, drop, getD, replicate, set, length-append, length-drop, length-set, length-replicate, getD-replicate, List·getD-append}
+use lib.Seq.{drop-append-seam}
+use Rattle.lists.proofs.Front.{mix, mix-done, mix-more}
+use Rattle.marks.specs.Standing.{Small, Standing, mood, word}
+use Rattle.marks.specs.declared.mood.Mood.{Mood}
+use Rattle.model.specs.Batch.{Batch}
+use Rattle.model.specs.Corner.{number, zero4}
+use Rattle.model.specs.Layer.{Tests}
+use Rattle.model.specs.Limits.{maxPoints}
+use Rattle.model.specs.Maps.{keys}
+use Rattle.sight.specs.Blocked.{Fitting, Seeing, Stood, codes, pointBlocks, wordsOf}
+use Rattle.sight.specs.Paired.{Filled, Pairs, pairAt, pairPlace, pairPlaces}
+use Rattle.sight.proofs.BlockLaws.{fitting-at, words-at, words-length}
+use Rattle.sight.proofs.PointLaws.{codes-length}
+use Rattle.table.specs.Tables.{Copied, pad}
+use Rattle.table.proofs.ListedLaws.{keys-length}
+use Rattle.table.proofs.TableLaws.{pad-length, pad-take}
+use Rattle.visibility.specs.Layers.{numbersOf}
+use Rattle.visibility.specs.Redraw.{Drawing, Redrawn}
+
+-- ---- the statuses
+numbers-length : (S : Stood) → length (numbersOf S) ≡ length S
+numbers-length [] = refl
+numbers-length (e ∷ S) = ap suc (numbers-length S)
+
+numbers-at : (S : Stood) (i : ℕ) (z : ℕ × Standing) → i < length S → getD (numbersOf S) i 0 ≡ number (getD S i z .1 .bits)
+numbers-at [] i z h = absurd (not-suc-le-zero h)
+numbers-at (e ∷ S) zero z h = refl
+numbers-at (e ∷ S) (suc i) z h = numbers-at S i z (le-of-suc-le-suc h)
+
+-- i statuses are written
+pub record Writing (moods out out′ : List ℕ) (i : ℕ) : Type 0 where
+  pub inside : i ≤ length moods
+  pub long : length out′ ≡ length out
+  pub is : (S : Stood) → Fitting S → moods ≡ wordsOf S → out′ ≡ mix (numbersOf S) out i
+
+pub writing-none : (moods out : List ℕ) → Writing moods out out 0
+writing-none moods out = record { inside = zero-le; long = refl; is = λ S f e. refl }
+
+module _ (moods out out′ : List ℕ) (i : ℕ) (room : length moods ≤ length out) (w : Writing moods out out′ i) where
+  pub writing-more : i < length moods → (m : Mood) → ((s : Standing) → Small s → getD moods i 0 ≡ word s → m ≡ mood s) → Writing moods out (set out′ i (m .bits)) (i + 1)
+  writing-more h m g = record {
+    inside = omega arith;
+    long = length-set out′ i (m .bits) ∙ w .long;
+    is = λ S f e.
+        let z : ℕ × Standing = (0, record { bits = zero4; old = 0; first = 0 }) in
+        let l : length moods ≡ length S = ap length e ∙ words-length S in
+        let j : i < length S = omega arith in
+        let x = fitting-at S i z f j in
+        let b : m .bits ≡ getD (numbersOf S) i 0 =
+        ap (λ (y : Mood). y .bits) (g (getD S i z .1) (x .0) (ap (λ (y : List ℕ). getD y i 0) e ∙ words-at S i z j)) ∙ sym (numbers-at S i z j) in
+        let k : i < length (numbersOf S) = rw (numbers-length S) j in
+        let q : i < length out = omega arith in
+        ap (λ (y : List ℕ). set y i (m .bits)) (w .is S f e) ∙ ap (set (mix (numbersOf S) out i) i) b ∙ mix-more (numbersOf S) out i 0 k q;
+  }
+
+  pub writing-done : length moods ≤ i → (S : Stood) → Fitting S → moods ≡ wordsOf S → out′ ≡ numbersOf S ++ drop (length S) out
+  writing-done h S f e =
+      let l : length moods ≡ length S = ap length e ∙ words-length S in
+      let j : i ≡ length S = omega (arith, w .inside) in
+      w .is S f e ∙ ap (mix (numbersOf S) out) j ∙ mix-done (numbersOf S) out (length S) (numbers-length S)
+
+-- ---- lists with zeros behind
+drop-zeros : (n m : ℕ) → drop n (replicate {A = ℕ} m 0) ≡ replicate (m - n) 0
+drop-zeros zero m = let e : m ≡ m - 0 = omega arith in ap (λ (x : ℕ). replicate x 0) e
+drop-zeros (suc n) zero = let e : 0 ≡ 0 - suc n = omega arith in ap (λ (x : ℕ). replicate x 0) e
+drop-zeros (suc n) (suc m) = let e : m - n ≡ suc m - suc n = omega arith in drop-zeros n m ∙ ap (λ (x : ℕ). replicate x 0) e
+
+padded : (l : List ℕ) (n m : ℕ) → length l ≡ n → l ++ drop n (replicate m 0) ≡ pad m l
+padded l n m e = ap (λ (u : List ℕ). l ++ u) (drop-zeros n m ∙ ap (λ (x : ℕ). replicate (m - x) 0) (sym e))
+
+-- a list of a table's need, copied
+copied-whole : (l t t′ : List ℕ) (n : ℕ) → length l ≡ n → n ≤ length t → Copied l t t′ → t′ ≡ l ++ drop n t
+copied-whole l t t′ n e h c = let j : length l ≤ length t = omega arith in c .done j ∙ ap (λ (x : ℕ). l ++ drop x t) e
+
+blocks-length : (t : Tests) (C : List ℕ) (ch : Batch) (B : List (Option ℕ)) (S : Stood) → length (pointBlocks t C ch B S) ≡ length S
+unfolding pointBlocks
+blocks-length t C ch B [] = refl
+blocks-length t C ch B (e ∷ S) = ap suc (blocks-length t C ch B S)
+
+pub no-pairs : Pairs (λ i j. none) (replicate pairPlaces 0)
+no-pairs i j h k = getD-replicate pairPlaces (pairPlace i j) 0 0 (omega arith)
+
+-- ---- the whole
+module _ (t : Tests) (C : List ℕ) (ch : Batch) (S : Stood) (B : List (Option ℕ)) (P : ℕ → ℕ → Option (Option ℕ)) (turned full ks moods points statuses blockers pairs : List ℕ) (n count : ℕ)
+    (d : Drawing C ch S B P turned full ks moods points statuses blockers pairs n count) where
+  front : take n ks ≡ keys S
+  front =
+      let e : n ≡ length (keys S) = d .number ∙ sym (keys-length S) in
+      ap (λ (u : List ℕ). take n u) (d .keysAre) ∙ ap (λ (x : ℕ). take x (pad maxPoints (keys S))) e ∙ pad-take maxPoints (keys S)
+
+  pub seen : Seeing C ch S turned full (take n ks) (take n moods)
+  seen = record {
+    order = d .seeing .order;
+    inside = d .seeing .inside;
+    changes = d .seeing .changes;
+    fitting = d .seeing .fitting;
+    turnedAre = d .seeing .turnedAre;
+    fullAre = d .seeing .fullAre;
+    pointsAre = front;
+    moodsAre = d .moodsAre;
+  }
+
+  module _ (bits blocks joined points′ statuses′ blockers′ pairs′ : List ℕ)
+      (f : (S : Stood) → Fitting S → take n moods ≡ wordsOf S → bits ≡ numbersOf S ++ drop (length S) (replicate 64 0))
+      (g : blocks ≡ codes (pointBlocks t C ch B S) ++ drop (length S) (replicate 64 0))
+      (h : Filled (pairAt t C ch P S) (replicate 4096 0) joined)
+      (a : Copied ks points points′) (b : Copied bits statuses statuses′) (e : Copied blocks blockers blockers′) (o : Copied joined pairs pairs′) where
+    bits-are : bits ≡ pad maxPoints (numbersOf S)
+    bits-are = f S (d .seeing .fitting) (d .moodsAre) ∙ padded (numbersOf S) (length S) maxPoints (numbers-length S)
+
+    blocks-are : blocks ≡ pad maxPoints (codes (pointBlocks t C ch B S))
+    blocks-are = g ∙ padded (codes (pointBlocks t C ch B S)) (length S) maxPoints (codes-length (pointBlocks t C ch B S) ∙ blocks-length t C ch B S)
+
+    whole : length joined ≡ pairPlaces
+    whole = h .same ∙ length-replicate {A = ℕ} 4096 0
+
+    pairs-is : pairs′ ≡ joined ++ drop pairPlaces pairs
+    pairs-is = copied-whole joined pairs pairs′ pairPlaces whole (d .pairsRoom) o
+
+    store : (l u u′ v : List ℕ) → u ≡ pad maxPoints l → length l ≤ maxPoints → maxPoints ≤ length v → Copied u v u′ → u′ ≡ pad maxPoints l ++ drop maxPoints v
+    store l u u′ v q few room c = copied-whole u v u′ maxPoints (ap length q ∙ pad-length maxPoints l few) room c ∙ ap (λ (x : List ℕ). x ++ drop maxPoints v) q
+
+    pub redrawn : Redrawn t C ch S B P points points′ statuses statuses′ blockers blockers′ pairs pairs′
+    redrawn =
+        let few = d .few in
+        record {
+          keysAre = store (keys S) ks points′ points (d .keysAre) (rw (keys-length S) few) (d .pointsRoom) a;
+          statusesAre = store (numbersOf S) bits statuses′ statuses bits-are (rw (numbers-length S) few) (d .statusesRoom) b;
+          blocksAre = store (codes (pointBlocks t C ch B S)) blocks blockers′ blockers blocks-are (rw (codes-length (pointBlocks t C ch B S), blocks-length t C ch B S) few) (d .blockersRoom) e;
+          pairsAre = λ i j x y.
+              let z : pairPlace i j < length joined = rw whole (omega arith) in
+              ap (λ (u : List ℕ). getD u (pairPlace i j) 0) pairs-is ∙ List·getD-append joined (drop pairPlaces pairs) 0 (pairPlace i j) z ∙ h .pairs i j x y;
+          pairsBehind = ap (drop pairPlaces) pairs-is ∙ ap (λ (x : ℕ). drop x (joined ++ drop pairPlaces pairs)) (sym whole) ∙ drop-append-seam joined (drop pairPlaces pairs);
+          pairsLong = ap length pairs-is ∙ simp (length-append, length-drop, whole) (let r = d .pairsRoom in omega arith);
+        }

@@ -1,0 +1,81 @@
+-- A batch on a map, whole: its refusals, its answer, and every lent table afterwards. Definitions only.
+use Prim.Native.Nat.{ℕ, suc, _<_}
+use mathlib.Core.Path.{_≡_}
+use mathlib.Core.Bool.{Bool, false, true}
+use mathlib.Core.List.{List, [], _∷_, _++_}
+use lib.Dec.{ltb}
+use lib.IntN.{ℤ}
+use lib.ListN.{length}
+use Rattle.corner.specs.Changes.{numbered}
+use Rattle.grid.specs.Batches.{entries, flags}
+use Rattle.grid.specs.Floor as floor
+use Rattle.model.specs.Batch.{cellsAfter, confirmed, cornerChanges}
+use Rattle.model.specs.Limits.{maxBatch, maxCells, maxPoints, needConfirmed, needCorners}
+use Rattle.model.specs.Map as model
+use Rattle.model.specs.Refusal.{badRadius, badSize, judge, outside, short, unsorted, verdict}
+use Rattle.table.specs.Listed.{Listed}
+use Rattle.visibility.specs.Holds.{Behind, Holds, Tables, needs}
+use Rattle.visibility.specs.Open.{noMap}
+use Rattle.visibility.specs.declared.change.Changed.{Changed}
+use Rattle.visibility.specs.declared.map.Map.{Map}
+
+-- the map's tables; the confirmed changes with 1 or 0; the corner changes with their statuses
+pub record Lent : Type 0 where
+  pub tables : Tables
+  pub confirmed : List ℕ
+  pub full : List ℕ
+  pub corners : List ℕ
+  pub altered : List ℕ
+
+abbrev pub lentNeeds : Lent → List (ℕ × ℕ)
+lentNeeds t = needs (t .tables) ++ ((length (t .confirmed), needConfirmed) ∷ (length (t .full), needConfirmed) ∷ (length (t .corners), needCorners) ∷ (length (t .altered), needCorners) ∷ [])
+
+-- the model's refusals of a batch (`judge`): whether a table is short, the map handed in, the entries, whether there are too many cells or points
+unfoldable pub refuseBatch : Bool → Map → List model.Entry → Bool → Bool → ℕ
+refuseBatch lent m l crowded packed =
+    verdict
+    (record {
+      short = lent;
+      size = badSize (m .size);
+      radius = badRadius (m .size) (m .radius);
+      long = ltb maxBatch (length l);
+      disorder = unsorted l;
+      outside = outside l;
+      cells = crowded;
+      points = packed;
+      query = false;
+    })
+
+-- a refused call answers its number, and all else is zero
+abbrev pub refusedWith : ℕ → Changed
+refusedWith n = record { refusal = n; yes = false; confirmed = 0; corners = 0; map = noMap }
+
+-- ---- what an accepted batch of the entries l makes of the model's map M
+abbrev pub changesOf : model.Map → List model.Entry → List (ℕ × ℕ)
+changesOf M l = flags (confirmed (model.toBatch l) (M .cells))
+
+abbrev pub cornersOf : model.Map → List model.Entry → List (ℕ × ℕ)
+cornersOf M l = numbered (cornerChanges (M .cells) (cellsAfter (model.toBatch l) (M .cells)) (confirmed (model.toBatch l) (M .cells)))
+
+pub record Done (m : Map) (M : model.Map) (l : List model.Entry) (t t′ : Lent) (r : Changed) : Type 0 where
+  pub answer : r ≡ record {
+    refusal = 0;
+    yes = ltb 0 (length (changesOf M l));
+    confirmed = length (changesOf M l);
+    corners = length (cornersOf M l);
+    map = record { size = m .size; radius = m .radius; cells = length (model.next (model.batch l) M .cells); points = length (model.next (model.batch l) M .layer .points) };
+  }
+  pub holds : Holds (r .map) (t′ .tables) (model.next (model.batch l) M)
+  pub behind : Behind (t .tables) (t′ .tables)
+  pub changes : Listed (changesOf M l) (t .confirmed) (t′ .confirmed) (t .full) (t′ .full) (r .confirmed)
+  pub altered : Listed (cornersOf M l) (t .corners) (t′ .corners) (t .altered) (t′ .altered) (r .corners)
+
+-- ---- the call. A map whose tables hold none (no call gives one) may only be refused, or changed in a way that is not promised
+pub record Changing (m : Map) (b : List ℤ) (t t′ : Lent) (r : Changed) : Type 0 where
+  -- what the input alone decides, the number of cells handed in among it
+  pub input : (n : ℕ) → refuseBatch (short (lentNeeds t)) m (entries b) (ltb maxCells (m .cells)) false ≡ suc n → r ≡ refusedWith (suc n)
+  -- a map that comes with too many points
+  pub packed : (C : List ℕ) → floor.Holds (t .tables .cells) (m .cells) C → maxPoints < m .points → r .refusal ≡ refuseBatch (short (lentNeeds t)) m (entries b) (ltb maxCells (length (cellsAfter (model.toBatch (entries b)) C))) true
+  pub refusal : (M : model.Map) → Holds m (t .tables) M → r .refusal ≡ judge (lentNeeds t) (model.batch (entries b)) M (model.next (model.batch (entries b)) M)
+  pub refused : (n : ℕ) → r .refusal ≡ suc n → (t′ ≡ t) × (r ≡ refusedWith (suc n))
+  pub done : (M : model.Map) → Holds m (t .tables) M → r .refusal ≡ 0 → Done m M (entries b) t t′ r

@@ -1,0 +1,8 @@
+-- What the contracts of crate `visibility` cite.
+pub mod Change
+pub mod Holds
+pub mod Layers
+pub mod Open
+pub mod Radius
+pub mod Redraw
+pub mod Update

@@ -1,0 +1,26 @@
+-- Opening a map. Definitions only.
+use Prim.Native.Nat.{ℕ, suc}
+use mathlib.Core.Path.{_≡_}
+use lib.Ieee.{Float}
+use Rattle.ieee.specs.Constants.{nought}
+use Rattle.model.specs.Map.{fresh}
+use Rattle.model.specs.Refusal.{refuseOpen}
+use Rattle.visibility.specs.Holds.{Behind, Holds, Tables, needs}
+use Rattle.visibility.specs.declared.map.Map.{Map}
+use Rattle.visibility.specs.declared.map.Outcome.{Outcome}
+
+-- all zero: what a refused call gives
+abbrev pub noMap : Map
+noMap = record { size = nought; radius = nought; cells = 0; points = 0 }
+
+-- a refused call answers its number, and all else is zero
+abbrev pub refusedWith : ℕ → Outcome
+refusedWith n = record { refusal = n; map = noMap }
+
+-- the opening with c and r
+pub record Opening (c r : Float) (t t′ : Tables) (o : Outcome) : Type 0 where
+  pub refusal : o .refusal ≡ refuseOpen (needs t) c r
+  pub refused : (n : ℕ) → o .refusal ≡ suc n → (t′ ≡ t) × (o ≡ refusedWith (suc n))
+  pub answer : o .refusal ≡ 0 → o .map ≡ record { size = c; radius = r; cells = 0; points = 0 }
+  pub holds : o .refusal ≡ 0 → Holds (o .map) t′ (fresh c r)
+  pub behind : o .refusal ≡ 0 → Behind t t′

@@ -1,0 +1,53 @@
+-- A batch that nothing but the number of points may refuse. Definitions only.
+use Prim.Native.Nat.{ℕ, _≤_}
+use mathlib.Core.Path.{_≡_}
+use mathlib.Core.Logic.{_⊎_}
+use mathlib.Core.Bool.{true, false}
+use mathlib.Core.List.{List}
+use lib.Dec.{ltb}
+use lib.ListN.{length, take}
+use Rattle.model.specs.Batch.{cellsAfter}
+use Rattle.model.specs.ClosedForm.{marksIn}
+use Rattle.model.specs.Limits.{maxBatch, maxCells, maxPoints}
+use Rattle.model.specs.Map as model
+use Rattle.model.specs.Maps.{keys}
+use Rattle.model.specs.Refusal.{badRadius, outside, unsorted}
+use Rattle.sight.specs.Blocked.{wordsOf}
+use Rattle.table.specs.Listed.{values}
+use Rattle.table.specs.Tables.{pad}
+use Rattle.visibility.specs.Change.{Done, Lent, changesOf, cornersOf, refusedWith}
+use Rattle.visibility.specs.Holds.{Holds, Tables}
+use Rattle.visibility.specs.Layers.{stoodOf}
+use Rattle.visibility.specs.declared.change.Changed.{Changed}
+use Rattle.visibility.specs.declared.map.Map.{Map}
+
+-- what is known once the map handed in, the entries l and the number of cells afterwards have passed
+pub record Updating (m : Map) (t : Tables) (M : model.Map) (l : List model.Entry) : Type 0 where
+  pub holds : Holds m t M
+  pub radius : badRadius (M .size) (M .layer .radius) ≡ false
+  pub few : length l ≤ maxBatch
+  pub order : unsorted l ≡ false
+  pub bounds : outside l ≡ false
+  pub room : length (cellsAfter (model.toBatch l) (M .cells)) ≤ maxCells
+
+-- the points afterwards
+abbrev pub pointsAfter : model.Map → List model.Entry → ℕ
+pointsAfter M l = length (model.next (model.batch l) M .layer .points)
+
+-- and once these have passed too: the lists that were made meanwhile
+pub record Finishing (m : Map) (t : Tables) (M : model.Map) (l : List model.Entry) (turned full corners bits ks moods : List ℕ) (n : ℕ) : Type 0 where
+  pub updating : Updating m t M l
+  pub packed : pointsAfter M l ≤ maxPoints
+  pub turnedAre : turned ≡ keys (changesOf M l)
+  pub fullAre : full ≡ values (changesOf M l)
+  pub cornersAre : corners ≡ keys (cornersOf M l)
+  pub bitsAre : bits ≡ values (cornersOf M l)
+  pub number : n ≡ pointsAfter M l
+  pub keysAre : ks ≡ pad maxPoints (keys (model.next (model.batch l) M .layer .points))
+  pub moodsAre : take n moods ≡ wordsOf (stoodOf (marksIn (model.shiftOf (M .size) (M .layer .radius)) (M .cells) (model.toBatch l)) (M .layer .points) (model.next (model.batch l) M .layer .points))
+
+-- what such a batch comes to
+pub record Updated (m : Map) (l : List model.Entry) (t t′ : Lent) (r : Changed) : Type 0 where
+  pub either : (r .refusal ≡ 0) ⊎ ((r ≡ refusedWith 7) × (t′ ≡ t))
+  pub packed : (M : model.Map) → Updating m (t .tables) M l → ltb maxPoints (pointsAfter M l) ≡ true → r .refusal ≡ 7
+  pub done : (M : model.Map) → Updating m (t .tables) M l → ltb maxPoints (pointsAfter M l) ≡ false → Done m M l t t′ r
