@@ -1,56 +1,47 @@
 -- An accepted batch, from what its three steps leave: the confirmed changes, the corner changes, the cells. Assumes nothing.
-use Prim.Native.Nat.{ℕ, suc, _+_, _-_, _*_, _≤_}
+use Prim.Native.Nat.{ℕ, suc, _*_, _≤_}
 use native.Mathlib.Omega.{arith}
-use mathlib.Core.Path.{_≡_, refl, sym, ap, _∙_, subst}
+use mathlib.Core.Path.{_≡_, refl, ap, _∙_, subst}
 use mathlib.Core.Bool.{false}
 use mathlib.Core.List.{List, [], _∷_, _++_}
 use lib.ListN.{length, take, drop}
-use lib.Seq.{take-append-seam}
 use Rattle.model.specs.Batch.{Batch, cellsAfter, confirmed, cornerChanges}
 use Rattle.model.specs.Corner.{Bits}
 use Rattle.model.specs.Good.{Inside}
-use Rattle.model.specs.Limits.{maxCells, maxCoordinate}
+use Rattle.model.specs.Limits.{maxBatch, maxCells, maxCoordinate, needCorners}
 use Rattle.model.specs.Map.{Entry, toBatch}
-use Rattle.model.specs.Maps.{Asc, AscL, keys}
+use Rattle.model.specs.Maps.{AscL, keys}
 use Rattle.model.specs.Refusal.{unsorted, outside}
-use Rattle.model.proofs.BatchLaws.{cells-order}
 use Rattle.table.specs.Listed.{Listed, values}
-use Rattle.table.specs.Tables.{All, Table, pad}
+use Rattle.table.specs.Tables.{All}
 use Rattle.table.proofs.AllLaws.{all-map}
 use Rattle.table.proofs.ListedLaws.{keys-length, listed-cells, listed-numbers}
-use Rattle.table.proofs.TableLaws.{pad-length, pad-table, pad-take}
 use Rattle.corner.specs.Changes.{Inner, Turned, numbered}
 use Rattle.grid.specs.Batches.{flags}
 use Rattle.grid.specs.Change.{Applying, Done}
-use Rattle.grid.specs.Floor.{Holds}
 use Rattle.grid.specs.declared.floor.Floor.{Floor}
 use Rattle.grid.proofs.BatchLaws.{Settled, settled, batch-length}
-use Rattle.grid.proofs.FloorLaws.{behind, holds-cells}
+use Rattle.grid.proofs.CommitLaws.{Commits, committed, committed-cells, committed-holds}
+use Rattle.grid.proofs.FloorLaws.{holds-cells}
 
 -- ---- lists of changes
-flags-keys : (b : Batch) → keys (flags b) ≡ keys b
+pub flags-keys : (b : Batch) → keys (flags b) ≡ keys b
 unfolding keys
 flags-keys [] = refl
 flags-keys (e ∷ b) = ap (λ (r : List ℕ). e .0 ∷ r) (flags-keys b)
 
-flags-count : (b : Batch) → length (flags b) ≡ length b
+pub flags-count : (b : Batch) → length (flags b) ≡ length b
 flags-count [] = refl
 flags-count (e ∷ b) = ap suc (flags-count b)
 
-numbered-count : (l : List (ℕ × Bits)) → length (numbered l) ≡ length l
+pub numbered-count : (l : List (ℕ × Bits)) → length (numbered l) ≡ length l
 numbered-count [] = refl
 numbered-count (e ∷ l) = ap suc (numbered-count l)
 
-inside-inner : (k : ℕ) → Inside maxCoordinate k → Inner k
+pub inside-inner : (k : ℕ) → Inside maxCoordinate k → Inner k
 inside-inner k h = (omega arith, omega arith)
 
--- the first places of a floor's table
-pub holds-table : (t : List ℕ) (n : ℕ) (C : List ℕ) → Holds t n C → take maxCells t ≡ pad maxCells C
-holds-table t n C h =
-    let e : length (pad maxCells C) ≡ maxCells = pad-length maxCells C (h .room) in
-    ap (λ (m : ℕ). take m t) (sym e) ∙ ap (take (length (pad maxCells C))) (h .table) ∙ take-append-seam (pad maxCells C) (drop maxCells t)
-
--- ---- what the three steps promise, of the cells u, the turned cells k with the numbers m, and the first places p of the table
+-- ---- what the first two steps promise, of the cells u and the turned cells k
 abbrev pub Confirms : List Entry → List ℕ → List ℕ → List ℕ → List ℕ → List ℕ → ℕ → Type 0
 Confirms l u conf conf′ full full′ r =
     AscL 0 u → unsorted l ≡ false → outside l ≡ false → length l ≤ length conf → length l ≤ length full → Listed (flags (confirmed (toBatch l) u)) conf conf′ full full′ r
@@ -60,9 +51,25 @@ Alters u k corn corn′ stat stat′ r =
     (ch : Batch) (D : List ℕ) → k ≡ keys ch → Turned u k D → AscL 0 u → AscL 0 k → All Inner k → 9 * length k ≤ length corn → 9 * length k ≤ length stat
     → Listed (numbered (cornerChanges u D ch)) corn corn′ stat stat′ r
 
-abbrev pub Commits : List ℕ → ℕ → List ℕ → List ℕ → List ℕ → ℕ → Type 0
-Commits p n k m w r =
-    (b : Batch) → k ≡ keys b → m ≡ values (flags b) → Asc 0 b → Table p n → length (cellsAfter b (take n p)) ≤ length p → (w ≡ pad (length p) (cellsAfter b (take n p))) × (r ≡ length (cellsAfter b (take n p)))
+-- ---- the listed changes, and the corners around them, of the batch l on the cells C
+module _ (l : List Entry) (C conf conf′ full full′ : List ℕ) (changes : ℕ) (asc : AscL 0 C) (order : unsorted l ≡ false) (bounds : outside l ≡ false) (few : length l ≤ maxBatch)
+    (w : Listed (flags (confirmed (toBatch l) C)) conf conf′ full full′ changes) where
+  abbrev ch₀ : Batch
+  ch₀ = confirmed (toBatch l) C
+
+  changes-turned : take changes conf′ ≡ keys ch₀
+  changes-turned = listed-cells (flags ch₀) conf conf′ full full′ changes w ∙ flags-keys ch₀
+
+  pub corners-listed : (corn corn′ stat stat′ : List ℕ) (altered : ℕ) → needCorners ≤ length corn → needCorners ≤ length stat → Alters C (take changes conf′) corn corn′ stat stat′ altered
+      → Listed (numbered (cornerChanges C (cellsAfter (toBatch l) C) ch₀)) corn corn′ stat stat′ altered
+  corners-listed corn corn′ stat stat′ altered hc hs g =
+      let s : Settled (toBatch l) C = settled l C asc order bounds in
+      let x : length (keys ch₀) ≡ length ch₀ = keys-length ch₀ in
+      let y : length (toBatch l) ≡ length l = batch-length l in
+      let z = s .fewer in
+      let p : 9 * length (keys ch₀) ≤ length corn = omega (arith, x, y, z, few, hc) in
+      let q : 9 * length (keys ch₀) ≤ length stat = omega (arith, x, y, z, few, hs) in
+      subst (λ (k : List ℕ). Alters C k corn corn′ stat stat′ altered) changes-turned g ch₀ (cellsAfter (toBatch l) C) refl (s .turned) asc (s .keyOrder) (all-map (keys ch₀) inside-inner (s .inside)) p q
 
 module _ (floor : Floor) (l : List Entry) (t conf conf′ full full′ corn corn′ stat stat′ w : List ℕ) (changes altered after : ℕ) (C : List ℕ) (a : Applying t (floor .cells) C l (length corn) (length stat)) where
   abbrev b : Batch
@@ -88,33 +95,13 @@ module _ (floor : Floor) (l : List Entry) (t conf conf′ full full′ corn corn
     listed = subst (λ (u : List ℕ). Confirms l u conf conf′ full full′ changes) same f (a .holds .order) (a .order) (a .bounds) hc hf
 
     turned : take changes conf′ ≡ keys ch
-    turned = listed-cells (flags ch) conf conf′ full full′ changes listed ∙ flags-keys ch
-
-    nine : 9 * length (keys ch) ≤ 2304
-    nine =
-        let x : length (keys ch) ≡ length ch = keys-length ch in
-        let y : length b ≡ length l = batch-length l in
-        omega (arith, s .fewer, a .few)
+    turned = changes-turned l C conf conf′ full full′ changes (a .holds .order) (a .order) (a .bounds) (a .few) listed
 
     module _ (g : Alters (take n t) (take changes conf′) corn corn′ stat stat′ altered) (h : Commits (take maxCells t) n (take changes conf′) (take changes full′) w after) where
       corners : Listed (numbered (cornerChanges C C′ ch)) corn corn′ stat stat′ altered
       corners =
-          let g′ : Alters C (take changes conf′) corn corn′ stat stat′ altered = subst (λ (u : List ℕ). Alters u (take changes conf′) corn corn′ stat stat′ altered) same g in
-          subst (λ (k : List ℕ). Alters C k corn corn′ stat stat′ altered) turned g′ ch C′ refl (s .turned) (a .holds .order) (s .keyOrder) (all-map (keys ch) inside-inner (s .inside))
-          (let x = nine in omega (arith, a .corners)) (let x = nine in omega (arith, a .statuses))
-
-      -- the table of the first places
-      committed : (w ≡ pad maxCells C′) × (after ≡ length C′)
-      committed =
-          let p : take maxCells t ≡ pad maxCells C = holds-table t n C (a .holds) in
-          let q : take n (pad maxCells C) ≡ C = ap (λ (j : ℕ). take j (pad maxCells C)) (a .holds .count) ∙ pad-take maxCells C in
-          let e : length (pad maxCells C) ≡ maxCells = pad-length maxCells C (a .holds .room) in
-          let T : Table (pad maxCells C) n = subst (λ (j : ℕ). Table (pad maxCells C) j) (sym (a .holds .count)) (pad-table maxCells C (a .holds .room) (a .holds .order)) in
-          let c : cellsAfter ch (take n (pad maxCells C)) ≡ C′ = ap (cellsAfter ch) q ∙ s .cells in
-          let r : length (cellsAfter ch (take n (pad maxCells C))) ≤ length (pad maxCells C) = rw (c, e) (a .room) in
-          let m : take changes full′ ≡ values (flags ch) = listed-numbers (flags ch) conf conf′ full full′ changes listed in
-          let z = subst (λ (u : List ℕ). Commits u n (take changes conf′) (take changes full′) w after) p h ch turned m (s .order) T r in
-          (z .0 ∙ rw (c, e) refl, z .1 ∙ ap length c)
+          corners-listed l C conf conf′ full full′ changes (a .holds .order) (a .order) (a .bounds) (a .few) listed corn corn′ stat stat′ altered (a .corners) (a .statuses)
+          (subst (λ (u : List ℕ). Alters u (take changes conf′) corn corn′ stat stat′ altered) same g)
 
       pub applied : Done floor C l (record { cells = t; confirmed = conf; full = full; corners = corn; statuses = stat })
           (record { cells = w ++ drop maxCells t; confirmed = conf′; full = full′; corners = corn′; statuses = stat′ })
@@ -122,11 +109,11 @@ module _ (floor : Floor) (l : List Entry) (t conf conf′ full full′ corn corn
       applied =
           let e : changes ≡ length ch = listed .count ∙ flags-count ch in
           let f : altered ≡ length (cornerChanges C C′ ch) = corners .count ∙ numbered-count (cornerChanges C C′ ch) in
-          let y : w ++ drop maxCells t ≡ pad maxCells C′ ++ drop maxCells t = ap (λ (u : List ℕ). u ++ drop maxCells t) (committed .0) in
+          let m : take changes full′ ≡ values (flags ch) = listed-numbers (flags ch) conf conf′ full full′ changes listed in
           record {
-            answer = rw (e, f, committed .1) refl;
-            cells = y;
-            holds = record { table = y ∙ ap (λ (u : List ℕ). pad maxCells C′ ++ u) (sym (behind C′ (drop maxCells t) (w ++ drop maxCells t) (a .room) y)); count = refl; room = a .room; order = cells-order b C (a .holds .order); inside = s .stays (a .holds .inside) };
+            answer = rw (e, f, committed l (a .holds) (a .order) (a .bounds) (a .room) turned m h .1) refl;
+            cells = committed-cells l (a .holds) (a .order) (a .bounds) (a .room) turned m h;
+            holds = committed-holds l (a .holds) (a .order) (a .bounds) (a .room) turned m h;
             changes = listed;
             altered = corners;
           }

@@ -2,6 +2,7 @@
 pub mod ApplyLaws
 pub mod BatchLaws
 pub mod CallLaws
+pub mod CommitLaws
 pub mod Determinate
 pub mod EntryLaws
 pub mod FloorLaws

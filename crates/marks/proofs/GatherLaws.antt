@@ -18,7 +18,8 @@ use Rattle.table.proofs.AllLaws.{all-at}
 use Rattle.table.proofs.ListedLaws.{keys-length}
 use Rattle.table.proofs.TableLaws.{added-room, changed-keys, insert-room, insert-table}
 use Rattle.marks.specs.Marked.{Bordered, dirAt}
-use Rattle.marks.proofs.StandLaws.{add-few, cellAt, keys-at, markAt, marks-more, marks-next, numbers-at, stand-append, stand-one, stand-part}
+use Rattle.model.proofs.StandLaws.{stand-append}
+use Rattle.marks.proofs.StandLaws.{add-few, cellAt, keys-at, markAt, marks-more, marks-next, numbers-at, stand-one, stand-part}
 
 -- ---- the four places, by differences that may wrap
 module _ (k s : ℕ) (few : s ≤ 64) (b : Bordered k) where

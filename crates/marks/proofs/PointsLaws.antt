@@ -26,7 +26,7 @@ numbered-length : (cs : List (ℕ × Bits)) → length (numbered cs) ≡ length 
 numbered-length [] = refl
 numbered-length (c ∷ cs) = ap suc (numbered-length cs)
 
-drop-zeros : (j m : ℕ) → drop {A = ℕ} j (replicate m 0) ≡ replicate (m - j) 0
+pub drop-zeros : (j m : ℕ) → drop {A = ℕ} j (replicate m 0) ≡ replicate (m - j) 0
 drop-zeros zero m = ap (λ (i : ℕ). replicate {A = ℕ} i 0) (sym (sub-zero m))
 drop-zeros (suc j) zero = ap (λ (i : ℕ). replicate {A = ℕ} i 0) (sym (zero-sub (suc j)))
 drop-zeros (suc j) (suc m) = drop-zeros j m ∙ ap (λ (i : ℕ). replicate {A = ℕ} i 0) (sym (suc-sub-suc m j))

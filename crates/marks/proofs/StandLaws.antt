@@ -1,6 +1,5 @@
 -- The marks of a cell and of many, one after another, and the keys that they bring. Assumes nothing.
 use Prim.Native.Nat.{ℕ, zero, suc, _+_, _*_, _≤_, _<_}
-use native.Mathlib.Nat.{le-refl, le-trans}
 use native.Mathlib.Numerals.{add-one}
 use native.Mathlib.Omega.{arith}
 use mathlib.Core.Path.{_≡_, refl, sym, ap, _∙_}
@@ -15,6 +14,7 @@ use Rattle.model.specs.ClosedForm.{stand}
 use Rattle.model.specs.Corner.{Bits, bit, number, zero4}
 use Rattle.model.specs.Layer.{Mark, marks, marksOf}
 use Rattle.model.specs.Maps.{add, keys}
+use Rattle.model.proofs.StandLaws.{stand-append, stand-more}
 use Rattle.table.specs.Listed.{values}
 use Rattle.marks.specs.Marked.{dirAt}
 
@@ -67,24 +67,9 @@ numbers-at (c ∷ cs) zero = refl
 numbers-at (c ∷ cs) (suc i) = numbers-at cs i
 
 -- ---- the keys
-pub stand-append : (ms ns : List Mark) (K : List ℕ) → stand (ms ++ ns) K ≡ stand ns (stand ms K)
-unfolding stand
-stand-append [] ns K = refl
-stand-append (m ∷ ms) ns K = stand-append ms ns (cond (m .on) (add (m .at) K) K)
-
 pub stand-one : (m : Mark) (K : List ℕ) → stand (m ∷ []) K ≡ cond (m .on) (add (m .at) K) K
 unfolding stand
 stand-one m K = refl
-
-add-grows : (k : ℕ) (K : List ℕ) → length K ≤ length (add k K)
-unfolding add
-add-grows k [] = omega arith
-add-grows k (x ∷ l) = go (eqb k x) (ltb k x) (add-grows k l)
-  where
-    go : (b c : Bool) → length l ≤ length (add k l) → suc (length l) ≤ length (cond b (x ∷ l) (cond c (k ∷ x ∷ l) (x ∷ add k l)))
-    go true c ih = le-refl (suc (length l))
-    go false true ih = omega arith
-    go false false ih = omega arith
 
 pub add-few : (k : ℕ) (K : List ℕ) → length (add k K) ≤ length K + 1
 unfolding add
@@ -96,15 +81,6 @@ add-few k (x ∷ l) = go (eqb k x) (ltb k x) (add-few k l)
     go false true ih = omega arith
     go false false ih = omega arith
 
-pub stand-grows : (ms : List Mark) (K : List ℕ) → length K ≤ length (stand ms K)
-unfolding stand
-stand-grows [] K = le-refl (length K)
-stand-grows (m ∷ ms) K = go (m .on) (stand-grows ms (add (m .at) K)) (stand-grows ms K)
-  where
-    go : (b : Bool) → length (add (m .at) K) ≤ length (stand ms (add (m .at) K)) → length K ≤ length (stand ms K) → length K ≤ length (stand ms (cond b (add (m .at) K) K))
-    go true p q = le-trans (add-grows (m .at) K) p
-    go false p q = q
-
 -- what stands on the way is among what stands in the end
 pub stand-part : (s i : ℕ) (cs : List (ℕ × Bits)) (K : List ℕ) → length (stand (marks s (take i cs)) K) ≤ length (stand (marks s cs) K)
-stand-part s i cs K = rw (marks-split s i cs, stand-append (marks s (take i cs)) (marks s (drop i cs)) K) (stand-grows (marks s (drop i cs)) (stand (marks s (take i cs)) K))
+stand-part s i cs K = rw (marks-split s i cs, stand-append (marks s (take i cs)) (marks s (drop i cs)) K) (stand-more (marks s (drop i cs)) (stand (marks s (take i cs)) K))

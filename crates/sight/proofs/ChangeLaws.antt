@@ -77,22 +77,13 @@ module _ {P : Type 0} {F : Batch → Option ℕ → Option ℕ} {step : ℕ → 
     inside = omega arith;
     run = λ g ch o p q a w.
         let l = r .run g ch o p q a w in
-        let b : i < length ch = rw (p, keys-length ch) at h in
-        let x : ℕ × Bool = getD ch i (0, false) in
         let m : Batch = drop (i + 1) ch in
-        let d : drop i ch ≡ x ∷ m = drop-cons ch i (0, false) b ∙ ap (λ (j : ℕ). x ∷ drop j ch) (sym (add-one i)) in
-        let k : getD turned i 0 ≡ x .0 = ap (λ (y : List ℕ). getD y i 0) p ∙ keys-at ch i false in
-        let v : x .1 ≡ u = e (x .1) (ap (λ (y : List ℕ). getD y i 0) q ∙ flags-at ch i) in
+        let d : drop i ch ≡ (getD turned i 0, u) ∷ m = change-at ch turned full i u p q h e in
         let n : All (Inside maxCoordinate) turned = rw p a in
         record {
           held = step (getD turned i 0) u (l .held);
           coded = f g (l .held) (all-at (Inside maxCoordinate) turned i n h) (l .coded);
-          same =
-              ap (λ (j : ℕ). F m (step j u (l .held))) k
-              ∙ ap (λ (z : Bool). F m (step (x .0) z (l .held))) (sym v)
-              ∙ sym (s .turn x m (l .held))
-              ∙ ap (λ (y : Batch). F y (l .held)) (sym d)
-              ∙ l .same;
+          same = sym (s .turn (getD turned i 0, u) m (l .held)) ∙ ap (λ (y : Batch). F y (l .held)) (sym d) ∙ l .same;
         };
   }
 

@@ -1,5 +1,5 @@
 -- What blocks a pair after the changes, one by one. Assumes nothing.
-use Prim.Native.Nat.{ℕ, _+_, _^_, _≤_, _<_, zero-le}
+use Prim.Native.Nat.{ℕ, _+_, _^_, _≤_, _<_}
 use native.Mathlib.Omega.{arith}
 use mathlib.Core.Path.{_≡_, refl, sym, ap, _∙_}
 use mathlib.Core.Logic.{_≢_}
@@ -9,7 +9,7 @@ use mathlib.Core.Option.{Option, none, some}
 use borrow.Author.Tests.{eq-eqb, ne-eqb}
 use lib.Dec.{eqb}
 use lib.Ieee.{Float}
-use lib.ListN.{length, drop, getD, drop-of-length-le}
+use lib.ListN.{length, getD}
 use Rattle.grid.specs.Batches.{flags}
 use Rattle.grid.proofs.WriteLaws.{Says, says-free, says-full}
 use Rattle.model.specs.Batch.{Batch}
@@ -20,10 +20,8 @@ use Rattle.model.specs.Map.{tests}
 use Rattle.model.specs.Maps.{AscL, keys}
 use Rattle.table.specs.Listed.{values}
 use Rattle.table.specs.Tables.{All}
-use Rattle.table.proofs.AllLaws.{all-at}
-use Rattle.table.proofs.ListedLaws.{keys-length}
 use Rattle.sight.specs.Codes.{Named, blockCode}
-use Rattle.sight.proofs.ChangeLaws.{change-at}
+use Rattle.sight.proofs.ChangeLaws as change
 use Rattle.sight.proofs.NamedLaws.{inside-named, sweep-named}
 
 -- ---- one change
@@ -71,14 +69,18 @@ pub record Lent (C : List ℕ) (ch : Batch) (turned full : List ℕ) : Type 0 wh
 abbrev pub Answers : Tests → ℕ → ℕ → (ℕ → Bool) → Type 0
 Answers t p q says = (k : ℕ) → k < 2 ^ 64 → says k ≡ t .near k p q
 
--- the pair that o blocked, with i changes made: `block` blocks it, and the rest is to come
-pub record Running (size radius : Float) (C : List ℕ) (p q : ℕ) (says : ℕ → Bool) (turned full : List ℕ) (start i block : ℕ) : Type 0 where
-  pub below : i ≤ length turned
-  pub run : (ch : Batch) (o : Option ℕ) → Lent C ch turned full → Answers (tests size radius) p q says → start ≡ blockCode o → Named o
-      → (o′ : Option ℕ) × (block ≡ blockCode o′) × Named o′ × (edgeRun (tests size radius) C p q (drop i ch) o′ ≡ edgeRun (tests size radius) C p q ch o)
+-- what is given of the cells and of the prepared test
+pub record Given (size radius : Float) (C : List ℕ) (p q : ℕ) (says : ℕ → Bool) : Type 0 where
+  pub order : AscL 0 C
+  pub inside : All (Inside maxCoordinate) C
+  pub answers : Answers (tests size radius) p q says
+
+-- the loop over the changes, for a pair
+abbrev pub Running : Float → Float → List ℕ → ℕ → ℕ → (ℕ → Bool) → List ℕ → List ℕ → ℕ → ℕ → ℕ → Type 0
+Running size radius C p q says turned full start i block = change.Running (Given size radius C p q says) (edgeRun (tests size radius) C p q) turned full start i block
 
 pub running-start : (size radius : Float) (C : List ℕ) (p q : ℕ) (says : ℕ → Bool) (turned full : List ℕ) (start : ℕ) → Running size radius C p q says turned full start 0 start
-running-start size radius C p q says turned full start = record { below = zero-le; run = λ ch o g a e n. (o, e, n, refl) }
+running-start size radius C p q says turned full start = change.running-start (Given size radius C p q says) (edgeRun (tests size radius) C p q) turned full start
 
 module _ {size radius : Float} {C : List ℕ} {p q : ℕ} {says : ℕ → Bool} {turned full : List ℕ} {start i block : ℕ} (w : Running size radius C p q says turned full start i block) where
   abbrev t : Tests
@@ -91,20 +93,12 @@ module _ {size radius : Float} {C : List ℕ} {p q : ℕ} {says : ℕ → Bool} 
   step : i < length turned → (u : Bool) → Says (getD full i 0) u → (r : ℕ)
       → ((o : Option ℕ) → AscL 0 C → All (Inside maxCoordinate) C → Answers t p q says → 2 ≤ c → block ≡ blockCode o → r ≡ blockCode (edgeAfter t C p q c u o))
       → Running size radius C p q says turned full start (i + 1) r
-  unfolding edgeRun
-  step h u s r f = record {
-    below = omega arith;
-    run = λ ch o g a e n.
-        let x = w .run ch o g a e n in
-        let k : Inside maxCoordinate c = all-at (Inside maxCoordinate) turned i (rw (g .turnedAre) (g .changes)) h in
-        let d : drop i ch ≡ (c, u) ∷ drop (i + 1) ch = change-at ch turned full i u (g .turnedAre) (g .fullAre) h s in
-        let z : Option ℕ = edgeAfter t C p q c u (x .0) in (
-          z,
-          f (x .0) (g .order) (g .inside) a (inside-named c k) (x .1),
-          after-named t C p q c u (x .0) (sweep-named size radius C p q (g .inside)) (inside-named c k) (x .2),
-          ap (λ (b : Batch). edgeRun t C p q b (x .0)) (sym d) ∙ x .3,
-        );
-  }
+  step h u s r f =
+      change.running-next (change.edge-turns t C p q) w r u h s
+      (λ g o k d. record {
+        code = f o (g .order) (g .inside) (g .answers) (inside-named c k) (d .code);
+        named = after-named t C p q c u o (sweep-named size radius C p q (g .inside)) (inside-named c k) (d .named);
+      })
 
   pub running-freed : i < length turned → getD full i 0 ≡ 0 → block ≡ c → (r : ℕ) → (AscL 0 C → All (Inside maxCoordinate) C → r ≡ blockCode (t .sweep C p q .cell))
       → Running size radius C p q says turned full start (i + 1) r
@@ -120,8 +114,5 @@ module _ {size radius : Float} {C : List ℕ} {p q : ℕ} {says : ℕ → Bool} 
   running-missed h e l b = step h true (says-full e) block (λ o y a s n m. m ∙ ap blockCode (filled t C p q c o false (sym (s c l) ∙ b)))
 
   pub running-end : length turned ≤ i → (ch : Batch) (o : Option ℕ) → Lent C ch turned full → Answers t p q says → start ≡ blockCode o → Named o → block ≡ blockCode (edgeRun t C p q ch o)
-  unfolding edgeRun
   running-end h ch o g a e n =
-      let x = w .run ch o g a e n in
-      let l : length ch ≤ i = rw (g .turnedAre, keys-length ch) at h in
-      x .1 ∙ ap blockCode (ap (λ (b : Batch). edgeRun t C p q b (x .0)) (sym (drop-of-length-le ch l)) ∙ x .3)
+      change.running-end (change.edge-turns t C p q) w h (record { order = g .order; inside = g .inside; answers = a }) ch o (g .turnedAre) (g .fullAre) (g .changes) e n

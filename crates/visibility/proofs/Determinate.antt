@@ -6,21 +6,26 @@ use mathlib.Core.Logic.{_⊎_, ⊎-elim}
 use mathlib.Core.List.{List, _++_}
 use mathlib.Core.Option.{Option}
 use lib.Ieee.{Float}
+use lib.IntN.{ℤ}
 use lib.ListN.{drop, getD, length}
 use lib.Seq.{ext-getD, getD-drop}
+use Rattle.grid.specs.Batches.{entries}
 use Rattle.ieee.proofs.Tools.{lt-or-ge}
 use Rattle.model.specs.Limits.{maxCells, maxPoints}
 use Rattle.marks.specs.Marked.{statusesOf}
 use Rattle.model.specs.Map as model
 use Rattle.model.specs.Maps.{keys}
-use Rattle.model.specs.Refusal.{refuseOpen}
+use Rattle.model.specs.Refusal.{judge, refuseOpen}
 use Rattle.sight.specs.Blocked.{codes}
 use Rattle.sight.specs.Codes.{pairCode}
 use Rattle.sight.specs.Paired.{Pairs, pairPlace, pairPlaces}
+use Rattle.visibility.specs.Change.{Changing, Done, Lent, lentNeeds}
 use Rattle.visibility.specs.Holds.{Behind, Holds, Tables, needs}
 use Rattle.table.specs.Tables.{pad}
 use Rattle.visibility.specs.Layers.{blocksOf, edgeAt}
 use Rattle.visibility.specs.Open.{Opening}
+use Rattle.visibility.specs.Radius.{Rebuilding}
+use Rattle.visibility.specs.declared.change.Changed.{Changed}
 use Rattle.visibility.specs.declared.map.Map.{Map}
 use Rattle.visibility.specs.declared.map.Outcome.{Outcome}
 
@@ -73,4 +78,37 @@ module _ (c r : Float) (t t₁ t₂ : Tables) (o₁ o₂ : Outcome) where
       go : (n : ℕ) → o₁ .refusal ≡ n → o₂ .refusal ≡ n → (t₁ ≡ t₂) × (o₁ ≡ o₂)
       go zero p q =
           (holds-one (o₁ .map) (o₂ .map) (model.fresh c r) t t₁ t₂ (x .holds p) (y .holds q) (x .behind p) (y .behind q), same-outcome o₁ o₂ (p ∙ sym q) (x .answer p ∙ sym (y .answer q)))
+      go (suc n) p q = (x .refused n p .0 ∙ sym (y .refused n q .0), x .refused n p .1 ∙ sym (y .refused n q .1))
+
+-- ---- a batch, of maps that the tables hold
+same-lent : (t u : Lent) → t .tables ≡ u .tables → t .confirmed ≡ u .confirmed → t .full ≡ u .full → t .corners ≡ u .corners → t .altered ≡ u .altered → t ≡ u
+same-lent t u a b c d e = rw (a, b, c, d, e) refl
+
+module _ (m : Map) (b : List ℤ) (t t₁ t₂ : Lent) (r₁ r₂ : Changed) where
+  done-one : (M : model.Map) → Done m M (entries b) t t₁ r₁ → Done m M (entries b) t t₂ r₂ → (t₁ ≡ t₂) × (r₁ ≡ r₂)
+  done-one M x y = (
+    same-lent t₁ t₂
+        (holds-one (r₁ .map) (r₂ .map) (model.next (model.batch (entries b)) M) (t .tables) (t₁ .tables) (t₂ .tables) (x .holds) (y .holds) (x .behind) (y .behind))
+        (x .changes .cells ∙ sym (y .changes .cells))
+        (x .changes .numbers ∙ sym (y .changes .numbers))
+        (x .altered .cells ∙ sym (y .altered .cells))
+        (x .altered .numbers ∙ sym (y .altered .numbers)),
+    x .answer ∙ sym (y .answer),
+  )
+
+  pub change-one : Changing m b t t₁ r₁ → Changing m b t t₂ r₂ → (M : model.Map) → Holds m (t .tables) M → (t₁ ≡ t₂) × (r₁ ≡ r₂)
+  change-one x y M h = go (judge (lentNeeds t) (model.batch (entries b)) M (model.next (model.batch (entries b)) M)) (x .refusal M h) (y .refusal M h)
+    where
+      go : (n : ℕ) → r₁ .refusal ≡ n → r₂ .refusal ≡ n → (t₁ ≡ t₂) × (r₁ ≡ r₂)
+      go zero p q = done-one M (x .done M h p) (y .done M h q)
+      go (suc n) p q = (x .refused n p .0 ∙ sym (y .refused n q .0), x .refused n p .1 ∙ sym (y .refused n q .1))
+
+-- ---- a change of the radius, of a map that is held
+module _ (m : Map) (r : Float) (t t₁ t₂ : Tables) (o₁ o₂ : Outcome) where
+  pub radius-one : Rebuilding m r t t₁ o₁ → Rebuilding m r t t₂ o₂ → (M : model.Map) → Holds m t M → (t₁ ≡ t₂) × (o₁ ≡ o₂)
+  radius-one x y M h = go (judge (needs t) (model.radius r) M (model.next (model.radius r) M)) (x .refusal M h) (y .refusal M h)
+    where
+      go : (n : ℕ) → o₁ .refusal ≡ n → o₂ .refusal ≡ n → (t₁ ≡ t₂) × (o₁ ≡ o₂)
+      go zero p q =
+          (holds-one (o₁ .map) (o₂ .map) (model.next (model.radius r) M) t t₁ t₂ (x .holds M h p) (y .holds M h q) (x .behind M h p) (y .behind M h q), same-outcome o₁ o₂ (p ∙ sym q) (x .answer M h p ∙ sym (y .answer M h q)))
       go (suc n) p q = (x .refused n p .0 ∙ sym (y .refused n q .0), x .refused n p .1 ∙ sym (y .refused n q .1))

@@ -1,12 +1,20 @@
 -- The laws of crate `visibility`.
 pub mod BlockLaws
 pub mod BorderLaws
+pub mod ChangeLaws
 pub mod Determinate
+pub mod DrawnLaws
+pub mod FinishLaws
+pub mod LayerLaws
+pub mod MarkLaws
 pub mod NamedLaws
 pub mod OpenLaws
 pub mod PairLaws
 pub mod PlaceLaws
 pub mod RadiusLaws
+pub mod RebuildLaws
 pub mod RedrawLaws
 pub mod RefuseLaws
+pub mod RunLaws
 pub mod StoodLaws
+pub mod UpdateLaws

@@ -8,6 +8,7 @@ use mathlib.Core.Option.{Option, none}
 use lib.ListN.{length, take, drop, getD, replicate, set, length-append, length-drop, length-set, length-replicate, getD-replicate, List·getD-append}
 use lib.Seq.{drop-append-seam}
 use Rattle.lists.proofs.Front.{mix, mix-done, mix-more}
+use Rattle.marks.proofs.PointsLaws.{drop-zeros}
 use Rattle.marks.specs.Standing.{Small, Standing, mood, word}
 use Rattle.marks.specs.declared.mood.Mood.{Mood}
 use Rattle.model.specs.Batch.{Batch}
@@ -68,11 +69,6 @@ module _ (moods out out′ : List ℕ) (i : ℕ) (room : length moods ≤ length
       w .is S f e ∙ ap (mix (numbersOf S) out) j ∙ mix-done (numbersOf S) out (length S) (numbers-length S)
 
 -- ---- lists with zeros behind
-drop-zeros : (n m : ℕ) → drop n (replicate {A = ℕ} m 0) ≡ replicate (m - n) 0
-drop-zeros zero m = let e : m ≡ m - 0 = omega arith in ap (λ (x : ℕ). replicate x 0) e
-drop-zeros (suc n) zero = let e : 0 ≡ 0 - suc n = omega arith in ap (λ (x : ℕ). replicate x 0) e
-drop-zeros (suc n) (suc m) = let e : m - n ≡ suc m - suc n = omega arith in drop-zeros n m ∙ ap (λ (x : ℕ). replicate x 0) e
-
 padded : (l : List ℕ) (n m : ℕ) → length l ≡ n → l ++ drop n (replicate m 0) ≡ pad m l
 padded l n m e = ap (λ (u : List ℕ). l ++ u) (drop-zeros n m ∙ ap (λ (x : ℕ). replicate (m - x) 0) (sym e))
 

@@ -36,7 +36,7 @@ module _ (s : Bool) (m : Map) (l : List Entry) (w p : Bool) where
   abbrev rest : ℕ → ℕ
   rest = batchThen (ltb 256 (length l)) (unsorted l) (outside l)
 
-  in-turn : refuseBatch s m l w p ≡ cond s 9 (cond (badSize (m .size)) 1 (cond (badRadius (m .size) (m .radius)) 2 (rest (cond w 6 (cond p 7 0)))))
+  pub in-turn : refuseBatch s m l w p ≡ cond s 9 (cond (badSize (m .size)) 1 (cond (badRadius (m .size) (m .radius)) 2 (rest (cond w 6 (cond p 7 0)))))
   unfolding refuseBatch verdict firstOf
   in-turn = refl
 

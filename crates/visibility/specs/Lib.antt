@@ -5,4 +5,5 @@ pub mod Layers
 pub mod Open
 pub mod Radius
 pub mod Redraw
+pub mod Run
 pub mod Update

@@ -1,18 +1,38 @@
 // A batch on a map: judged first, then committed. A refusal alters nothing.
 use crate::judge::bad_radius;
+use crate::judge::reach_of;
+use crate::judge::shift_of;
+use crate::judge::short_tables;
+use crate::layer::redraw;
 use crate::map::Map;
 use crate::map::no_map;
+use corner::changes::corner_changes;
+use grid::batch::commit;
+use grid::batch::confirm;
+use grid::batch::count_after;
 use grid::judge::bad_size;
 use grid::judge::refuse_batch;
+use marks::points::mark_points;
+use table::copy::copy;
+use table::copy::copy_bytes;
 ghost use mathlib.Core.Path.{_≡_};
 ghost use mathlib.Core.Bool.{false};
+ghost use mathlib.Core.List.{List, [], _∷_};
+ghost use Prim.Native.Nat.{_≤_};
 ghost use lib.Dec.{ltb};
-ghost use Rattle.grid.specs.Batches.{entries};
-ghost use Rattle.model.specs.Batch.{confirmed};
-ghost use Rattle.model.specs.Limits.{maxCells};
+ghost use lib.ListN.{length};
+ghost use Rattle.corner.specs.Changes.{numbered};
+ghost use Rattle.grid.specs.Batches.{entries, flags};
+ghost use Rattle.model.specs.Batch.{cellsAfter, confirmed, cornerChanges};
+ghost use Rattle.model.specs.Cell.{reach};
+ghost use Rattle.model.specs.Limits.{maxCells, needConfirmed, needCorners};
+ghost use Rattle.model.specs.Map.{toBatch};
 ghost use Rattle.model.specs.Map as model;
-ghost use Rattle.model.specs.Refusal.{short};
-ghost use Rattle.visibility.specs.Change.{refuseBatch, refusedWith};
+ghost use Rattle.model.specs.Maps.{AscL};
+ghost use Rattle.model.specs.Refusal.{outside, short, unsorted};
+ghost use Rattle.table.specs.Listed.{Listed};
+ghost use Rattle.visibility.specs.Change.{Changing, Done, refuseBatch, refusedWith};
+ghost use Rattle.visibility.specs.Update.{Finishing, Updated};
 
 // 0, whether something was confirmed, how many changes were confirmed, how many corners altered, and the map afterwards; or the
 // refusal's number, and all else zero.
@@ -57,4 +77,243 @@ fn judge(short: bool, map: Map, batch: &[i64]) -> u8
         return 6;
     }
     0
+}
+
+// How many changes were confirmed, and how many corners altered.
+struct Counts {
+    changes: usize,
+    altered: usize,
+}
+
+// Lists the confirmed changes and the corner changes of a batch.
+fn list_changes(
+    cells: &[u64],
+    batch: &[i64],
+    turned: &mut [u64],
+    says: &mut [u8],
+    corners: &mut [u64],
+    bits: &mut [u8],
+) -> Counts
+    requires { ⌜ (length (entries (now batch)) ≤ 256) × (length (now turned) ≡ 256) × (length (now says) ≡ 256) × (length (now corners) ≡ 2304) × (length (now bits) ≡ 2304) ⌝ }
+    ensures { λ r. ⌜ (r .changes ≤ 256) × (r .altered ≤ 2304) × (AscL 0 (now (cells .entry)) → unsorted (entries (now (batch .entry))) ≡ false → outside (entries (now (batch .entry))) ≡ false
+        → Listed (flags (confirmed (toBatch (entries (now (batch .entry)))) (now (cells .entry)))) (now (turned .entry)) (now (turned .exit)) (now (says .entry)) (now (says .exit)) (r .changes)
+        × Listed (numbered (cornerChanges (now (cells .entry)) (cellsAfter (toBatch (entries (now (batch .entry)))) (now (cells .entry))) (confirmed (toBatch (entries (now (batch .entry)))) (now (cells .entry)))))
+        (now (corners .entry)) (now (corners .exit)) (now (bits .entry)) (now (bits .exit)) (r .altered)) ⌝ }
+{
+    let changes = confirm(cells, batch, turned, says);
+    let altered = corner_changes(cells, &turned[..changes], corners, bits);
+    Counts { changes, altered }
+}
+
+// Commits a batch: the cells, the layer over them, and the outputs.
+fn finish(
+    map: Map,
+    cells: &mut [u64],
+    points: &mut [u64],
+    statuses: &mut [u8],
+    blockers: &mut [u64],
+    pairs: &mut [u64],
+    turned: &[u64],
+    says: &[u8],
+    cs: &[u64],
+    bits: &[u8],
+    ks: &[u64],
+    moods: &[u64],
+    n: usize,
+    near: u64,
+    confirmed: &mut [u64],
+    full: &mut [u8],
+    corners: &mut [u64],
+    altered: &mut [u8],
+) -> Changed
+    requires { ⌜ (1024 ≤ length (now cells)) × (n ≤ 64) × (64 ≤ length (now ks)) × (64 ≤ length (now moods)) × (map .points ≤ length (now blockers)) ⌝ }
+    ensures { λ r. ⌜ (r .refusal ≡ 0) × ((M : model.Map) (l : List model.Entry) → near ≡ reach (model.shiftOf (M .size) (M .layer .radius))
+        → Finishing map (record { cells = now (cells .entry); points = now (points .entry); statuses = now (statuses .entry); blockers = now (blockers .entry); pairs = now (pairs .entry) }) M l
+        (now (turned .entry)) (now (says .entry)) (now (cs .entry)) (now (bits .entry)) (now (ks .entry)) (now (moods .entry)) n
+        → needConfirmed ≤ length (now (confirmed .entry)) → needConfirmed ≤ length (now (full .entry)) → needCorners ≤ length (now (corners .entry)) → needCorners ≤ length (now (altered .entry))
+        → Done map M l
+        (record { tables = record { cells = now (cells .entry); points = now (points .entry); statuses = now (statuses .entry); blockers = now (blockers .entry); pairs = now (pairs .entry) }; confirmed = now (confirmed .entry); full = now (full .entry); corners = now (corners .entry); altered = now (altered .entry) })
+        (record { tables = record { cells = now (cells .exit); points = now (points .exit); statuses = now (statuses .exit); blockers = now (blockers .exit); pairs = now (pairs .exit) }; confirmed = now (confirmed .exit); full = now (full .exit); corners = now (corners .exit); altered = now (altered .exit) }) r) ⌝ }
+{
+    let after = commit(&mut cells[..1024], map.cells, turned, says);
+    let mut used = after;
+    if 1024 < after {
+        used = 1024;
+    }
+    redraw(
+        map.size,
+        map.radius,
+        near,
+        &cells[..used],
+        turned,
+        says,
+        ks,
+        moods,
+        n,
+        map.points,
+        points,
+        statuses,
+        blockers,
+        pairs,
+    );
+    copy(turned, confirmed);
+    copy_bytes(says, full);
+    copy(cs, corners);
+    copy_bytes(bits, altered);
+    Changed {
+        refusal: 0,
+        yes: 0 < turned.len(),
+        confirmed: turned.len(),
+        corners: cs.len(),
+        map: Map {
+            size: map.size,
+            radius: map.radius,
+            cells: used,
+            points: n,
+        },
+    }
+}
+
+// The batch, once nothing but the number of points may refuse it.
+fn update(
+    map: Map,
+    cells: &mut [u64],
+    points: &mut [u64],
+    statuses: &mut [u8],
+    blockers: &mut [u64],
+    pairs: &mut [u64],
+    batch: &[i64],
+    confirmed: &mut [u64],
+    full: &mut [u8],
+    corners: &mut [u64],
+    altered: &mut [u8],
+) -> Changed
+    requires { ⌜ (map .cells ≤ 1024) × (1024 ≤ length (now cells)) × (map .points ≤ 64) × (64 ≤ length (now points)) × (64 ≤ length (now statuses)) × (64 ≤ length (now blockers)) × (length (entries (now batch)) ≤ 256)
+        × (needConfirmed ≤ length (now confirmed)) × (needConfirmed ≤ length (now full)) × (needCorners ≤ length (now corners)) × (needCorners ≤ length (now altered)) ⌝ }
+    ensures { λ r. ⌜ Updated map (entries (now (batch .entry)))
+        (record { tables = record { cells = now (cells .entry); points = now (points .entry); statuses = now (statuses .entry); blockers = now (blockers .entry); pairs = now (pairs .entry) }; confirmed = now (confirmed .entry); full = now (full .entry); corners = now (corners .entry); altered = now (altered .entry) })
+        (record { tables = record { cells = now (cells .exit); points = now (points .exit); statuses = now (statuses .exit); blockers = now (blockers .exit); pairs = now (pairs .exit) }; confirmed = now (confirmed .exit); full = now (full .exit); corners = now (corners .exit); altered = now (altered .exit) }) r ⌝ }
+{
+    let mut turned = [0u64; 256];
+    let mut says = [0u8; 256];
+    let mut cs = [0u64; 2304];
+    let mut bits = [0u8; 2304];
+    let n = map.cells;
+    let counts = list_changes(
+        &cells[..n],
+        batch,
+        &mut turned[..],
+        &mut says[..],
+        &mut cs[..],
+        &mut bits[..],
+    );
+    let changes = counts.changes;
+    let found = counts.altered;
+    let shift = shift_of(map.size, map.radius);
+    let p = map.points;
+    let mut ks = [0u64; 64];
+    let mut moods = [0u64; 64];
+    let m = mark_points(
+        shift,
+        &points[..p],
+        &statuses[..p],
+        &cs[..found],
+        &bits[..found],
+        &mut ks[..],
+        &mut moods[..],
+    );
+    if 64 < m {
+        return refused(7);
+    }
+    finish(
+        map,
+        cells,
+        points,
+        statuses,
+        blockers,
+        pairs,
+        &turned[..changes],
+        &says[..changes],
+        &cs[..found],
+        &bits[..found],
+        &ks[..],
+        &moods[..],
+        m,
+        reach_of(shift),
+        confirmed,
+        full,
+        corners,
+        altered,
+    )
+}
+
+// 9: whether a lent table is short of its need.
+fn short_outputs(confirmed: usize, full: usize, corners: usize, altered: usize) -> bool
+    ensures { λ r. ⌜ r ≡ short ((confirmed, needConfirmed) ∷ (full, needConfirmed) ∷ (corners, needCorners) ∷ (altered, needCorners) ∷ []) ⌝ }
+{
+    if confirmed < 256 {
+        return true;
+    }
+    if full < 256 {
+        return true;
+    }
+    if corners < 2304 {
+        return true;
+    }
+    altered < 2304
+}
+
+// Changes the map's cells as the batch says, and the points, pairs and blockers over them. `confirmed` and `full` get the confirmed
+// changes, `corners` and `altered` the corner changes with their statuses.
+pub fn change_cells(
+    map: Map,
+    cells: &mut [u64],
+    points: &mut [u64],
+    statuses: &mut [u8],
+    blockers: &mut [u64],
+    pairs: &mut [u64],
+    batch: &[i64],
+    confirmed: &mut [u64],
+    full: &mut [u8],
+    corners: &mut [u64],
+    altered: &mut [u8],
+) -> Changed
+    ensures { λ r. ⌜ Changing map (now (batch .entry))
+        (record { tables = record { cells = now (cells .entry); points = now (points .entry); statuses = now (statuses .entry); blockers = now (blockers .entry); pairs = now (pairs .entry) }; confirmed = now (confirmed .entry); full = now (full .entry); corners = now (corners .entry); altered = now (altered .entry) })
+        (record { tables = record { cells = now (cells .exit); points = now (points .exit); statuses = now (statuses .exit); blockers = now (blockers .exit); pairs = now (pairs .exit) }; confirmed = now (confirmed .exit); full = now (full .exit); corners = now (corners .exit); altered = now (altered .exit) }) r ⌝ }
+{
+    let mut short = short_tables(
+        cells.len(),
+        points.len(),
+        statuses.len(),
+        blockers.len(),
+        pairs.len(),
+    );
+    if short_outputs(confirmed.len(), full.len(), corners.len(), altered.len()) {
+        short = true;
+    }
+    let number = judge(short, map, batch);
+    if number != 0 {
+        return refused(number);
+    }
+    let n = map.cells;
+    if 1024 < count_after(&cells[..n], batch) {
+        return refused(6);
+    }
+    if 64 < map.points {
+        return refused(7);
+    }
+    update(
+        map,
+        cells,
+        points,
+        statuses,
+        blockers,
+        pairs,
+        batch,
+        confirmed,
+        full,
+        corners,
+        altered,
+    )
 }

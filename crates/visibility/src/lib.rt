@@ -5,3 +5,4 @@ pub mod judge;
 mod layer;
 pub mod map;
 pub mod open;
+pub mod radius;

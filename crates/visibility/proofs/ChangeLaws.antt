@@ -1,0 +1,198 @@
+-- What a call of `change_cells` answers and leaves: refused by its input, for its cells, for its points, or done. Assumes nothing.
+use Prim.Native.Nat.{ℕ, suc, _≤_, _<_}
+use native.Mathlib.Omega.{arith}
+use mathlib.Core.Path.{_≡_, refl, sym, ap, _∙_, subst}
+use mathlib.Core.Logic.{_⊎_, ⊎-elim}
+use mathlib.Core.Bool.{Bool, true, false, cond, _||_, or-assoc, or-false, or-true}
+use mathlib.Core.List.{List, [], _∷_, _++_}
+use lib.Dec.{ltb}
+use lib.IntN.{ℤ}
+use lib.ListN.{length, take}
+use borrow.Author.Tests.{lt-ltb, le-ltb, ltb-false}
+use Rattle.grid.proofs.FloorLaws.{holds-cells}
+use Rattle.grid.proofs.RefuseLaws.{apart}
+use Rattle.grid.specs.Batches.{entries}
+use Rattle.grid.specs.Floor as floor
+use Rattle.model.proofs.RunLaws.{passed}
+use Rattle.model.specs.Batch.{cellsAfter}
+use Rattle.model.specs.Limits.{maxBatch, maxCells, maxPoints}
+use Rattle.model.specs.Map as model
+use Rattle.model.specs.Maps.{AscL}
+use Rattle.model.specs.Refusal.{badRadius, badSize, judge, outside, short, unsorted}
+use Rattle.visibility.specs.Change.{Changing, Lent, lentNeeds, refuseBatch, refusedWith}
+use Rattle.visibility.specs.Holds.{Holds}
+use Rattle.visibility.specs.Update.{Updated, Updating, pointsAfter}
+use Rattle.visibility.specs.declared.change.Changed.{Changed}
+use Rattle.visibility.specs.declared.map.Map.{Map}
+use Rattle.visibility.proofs.RefuseLaws.{in-turn}
+
+-- ---- 9: two lists of lengths, one after the other
+short-append : (k l : List (ℕ × ℕ)) → short (k ++ l) ≡ short k || short l
+unfolding short
+short-append [] l = refl
+short-append (b ∷ k) l = let x = ltb (b .0) (b .1) in ap (λ (y : Bool). x || y) (short-append k l) ∙ sym (or-assoc x (short k) (short l))
+
+pub short-either : (k l : List (ℕ × ℕ)) (x y s : Bool) → x ≡ short k → y ≡ short l → ((y ≡ true) × (s ≡ true)) ⊎ ((y ≡ false) × (s ≡ x)) → s ≡ short (k ++ l)
+short-either k l x y s p q w = ⊎-elim (λ z. z .1 ∙ sym (known true (z .0) ∙ or-true (short k))) (λ z. z .1 ∙ p ∙ sym (known false (z .0) ∙ or-false (short k))) w ∙ sym (short-append k l)
+  where
+    known : (b : Bool) → y ≡ b → short k || short l ≡ short k || b
+    known b z = ap (λ (a : Bool). short k || a) (sym q ∙ z)
+
+-- ---- what is due
+abbrev inTurn : Bool → Bool → Bool → Bool → Bool → Bool → Bool → Bool → ℕ
+inTurn s c r n d o w p = cond s 9 (cond c 1 (cond r 2 (cond n 3 (cond d 4 (cond o 5 (cond w 6 (cond p 7 0)))))))
+
+-- a refusal that is due before cells and points are counted is due whatever they come to
+turn-early : (s c r n d o w p : Bool) → (inTurn s c r n d o false false ≡ 0 → ⊥) → inTurn s c r n d o w p ≡ inTurn s c r n d o false false
+turn-early true c r n d o w p h = refl
+turn-early false true r n d o w p h = refl
+turn-early false false true n d o w p h = refl
+turn-early false false false true d o w p h = refl
+turn-early false false false false true o w p h = refl
+turn-early false false false false false true w p h = refl
+turn-early false false false false false false w p h = absurd (h refl)
+
+due-early : (s : Bool) (m : Map) (l : List model.Entry) (w p : Bool) → (refuseBatch s m l false false ≡ 0 → ⊥) → refuseBatch s m l w p ≡ refuseBatch s m l false false
+due-early s m l w p h =
+    let none = in-turn s m l false false in
+    in-turn s m l w p
+    ∙ turn-early s (badSize (m .size)) (badRadius (m .size) (m .radius)) (ltb maxBatch (length l)) (unsorted l) (outside l) w p (λ z. h (none ∙ z))
+    ∙ sym none
+
+-- what is not refused by the input alone: nothing is due but 6 and, after it, 7
+pub record Passed (s : Bool) (m : Map) (l : List model.Entry) : Type 0 where
+  pub long : s ≡ false
+  pub radius : badRadius (m .size) (m .radius) ≡ false
+  pub few : length l ≤ maxBatch
+  pub order : unsorted l ≡ false
+  pub bounds : outside l ≡ false
+  pub small : m .cells ≤ maxCells
+  pub later : (w p : Bool) → refuseBatch s m l w p ≡ cond w 6 (cond p 7 0)
+
+pub batch-passed : (s : Bool) (m : Map) (l : List model.Entry) → refuseBatch s m l (ltb maxCells (m .cells)) false ≡ 0 → Passed s m l
+unfolding refuseBatch
+batch-passed s m l e =
+    let q = passed _ e in
+    record {
+      long = q .short;
+      radius = q .radius;
+      few = ltb-false maxBatch (length l) (q .long);
+      order = q .disorder;
+      bounds = q .outside;
+      small = ltb-false maxCells (m .cells) (q .cells);
+      later = λ w p. in-turn s m l w p ∙ rw (q .short, q .size, q .radius, q .long, q .disorder, q .outside) refl;
+    }
+
+-- ---- the model's judgement, where the tables hold its map
+module _ (m : Map) (t : Lent) (M : model.Map) (l : List model.Entry) (h : Holds m (t .tables) M) where
+  next-cells : model.next (model.batch l) M .cells ≡ cellsAfter (model.toBatch l) (M .cells)
+  unfolding model.next model.changed
+  next-cells = refl
+
+  judged : judge (lentNeeds t) (model.batch l) M (model.next (model.batch l) M)
+      ≡ refuseBatch (short (lentNeeds t)) m l (ltb maxCells (length (cellsAfter (model.toBatch l) (M .cells)))) (ltb maxPoints (pointsAfter M l))
+  unfolding judge refuseBatch
+  judged = rw (h .size, h .radius, le-ltb maxCells (length (M .cells)) (h .cells .room), le-ltb maxPoints (length (M .layer .points)) (h .layer .room), next-cells) refl
+
+  few-points : m .points ≤ maxPoints
+  few-points = subst (λ (n : ℕ). n ≤ maxPoints) (sym (h .layer .count)) (h .layer .room)
+
+-- ---- the call
+module _ (m : Map) (b : List ℤ) (t t′ : Lent) (r : Changed) where
+  abbrev s : Bool
+  s = short (lentNeeds t)
+
+  abbrev l : List model.Entry
+  l = entries b
+
+  abbrev early : ℕ
+  early = refuseBatch s m l (ltb maxCells (m .cells)) false
+
+  abbrev after : List ℕ → List ℕ
+  after C = cellsAfter (model.toBatch l) C
+
+  abbrev HoldsCells : List ℕ → Type 0
+  HoldsCells C = floor.Holds (t .tables .cells) (m .cells) C
+
+  number : (n : ℕ) → r ≡ refusedWith n → r .refusal ≡ n
+  number n f = ap (λ (a : Changed). a .refusal) f
+
+  -- a refusal that is due whatever the points come to, or of a map that comes with too many
+  refuses : (n : ℕ) → (n ≡ 0 → ⊥) → r ≡ refusedWith n → t′ ≡ t → ((k : ℕ) → early ≡ suc k → n ≡ suc k)
+      → ((C : List ℕ) → HoldsCells C → (p : Bool) → (maxPoints < m .points → p ≡ true) → n ≡ refuseBatch s m l (ltb maxCells (length (after C))) p) → Changing m b t t′ r
+  refuses n some f w first due = record {
+    input = λ k z. f ∙ ap refusedWith (first k z);
+    packed = λ C h g. number n f ∙ due C h true (λ y. refl);
+    refusal = λ M h. number n f ∙ due (M .cells) (h .cells) (ltb maxPoints (pointsAfter M l)) (λ g. absurd (let k = few-points m t M l h in omega arith)) ∙ sym (judged m t M l h);
+    refused = λ k z. (w, f ∙ ap refusedWith (sym (number n f) ∙ z));
+    done = λ M h z. absurd (some (sym (number n f) ∙ z));
+  }
+
+  pub early-refused : (n : ℕ) → (n ≡ 0 → ⊥) → n ≡ early → r ≡ refusedWith n → t′ ≡ t → Changing m b t t′ r
+  early-refused n some e f w = refuses n some f w (λ k z. e ∙ z) (λ C h p g. whatever C h p)
+    where
+      -- a map that holds its cells is not crowded itself
+      calm : (C : List ℕ) → HoldsCells C → early ≡ refuseBatch s m l false false
+      calm C h = ap (λ (v : Bool). refuseBatch s m l v false) (le-ltb maxCells (m .cells) (subst (λ (k : ℕ). k ≤ maxCells) (sym (h .count)) (h .room)))
+
+      whatever : (C : List ℕ) → HoldsCells C → (p : Bool) → n ≡ refuseBatch s m l (ltb maxCells (length (after C))) p
+      whatever C h p = e ∙ calm C h ∙ sym (due-early s m l (ltb maxCells (length (after C))) p (λ z. some (e ∙ calm C h ∙ z)))
+
+  -- past the input's refusals, k is how many cells there would be
+  module _ (e : 0 ≡ early) (k : ℕ)
+      (count : AscL 0 (take (m .cells) (t .tables .cells)) → unsorted l ≡ false → outside l ≡ false → k ≡ length (after (take (m .cells) (t .tables .cells))))
+    where
+      past : Passed s m l
+      past = batch-passed s m l (sym e)
+
+      counted : (C : List ℕ) → HoldsCells C → k ≡ length (after C)
+      counted C h =
+          let same = holds-cells (t .tables .cells) (m .cells) C h in
+          count (subst (AscL 0) (sym same) (h .order)) (past .order) (past .bounds) ∙ ap (λ (D : List ℕ). length (after D)) same
+
+      not-early : (n : ℕ) → early ≡ suc n → ⊥
+      not-early n z = apart (sym z ∙ sym e)
+
+      pub crowded-refused : maxCells < k → r ≡ refusedWith 6 → t′ ≡ t → Changing m b t t′ r
+      crowded-refused g f w =
+          refuses 6 apart f w (λ n z. absurd (not-early n z))
+          (λ C h p u. sym (past .later (ltb maxCells (length (after C))) p ∙ ap (λ (v : Bool). cond v 6 (cond p 7 0)) (lt-ltb maxCells (length (after C)) (subst (λ (n : ℕ). maxCells < n) (counted C h) g))))
+
+      module _ (g : k ≤ maxCells) where
+        fits : (C : List ℕ) → HoldsCells C → length (after C) ≤ maxCells
+        fits C h = subst (λ (n : ℕ). n ≤ maxCells) (counted C h) g
+
+        -- where the cells fit, the points alone decide
+        points-decide : (C : List ℕ) → HoldsCells C → (p : Bool) → refuseBatch s m l (ltb maxCells (length (after C))) p ≡ cond p 7 0
+        points-decide C h p = past .later (ltb maxCells (length (after C))) p ∙ ap (λ (v : Bool). cond v 6 (cond p 7 0)) (le-ltb maxCells (length (after C)) (fits C h))
+
+        pub packed-refused : maxPoints < m .points → r ≡ refusedWith 7 → t′ ≡ t → Changing m b t t′ r
+        packed-refused big f w =
+            refuses 7 apart f w (λ n z. absurd (not-early n z)) (λ C h p u. sym (points-decide C h p ∙ ap (λ (v : Bool). cond v 7 0) (u big)))
+
+        pub updated : m .points ≤ maxPoints → Updated m l t t′ r → Changing m b t t′ r
+        updated few u = record {
+          input = λ n z. absurd (not-early n z);
+          packed = λ C h big. absurd (let j : m .points ≤ maxPoints = few in omega arith);
+          refusal = λ M h. answer M h (ltb maxPoints (pointsAfter M l)) refl ∙ sym (points-decide (M .cells) (h .cells) (ltb maxPoints (pointsAfter M l))) ∙ sym (judged m t M l h);
+          refused = λ n z. ⊎-elim (λ y. absurd (apart (sym z ∙ y))) (λ y. (y .1, y .0 ∙ ap refusedWith (sym (number 7 (y .0)) ∙ z))) (u .either);
+          done = λ M h z. u .done M (updating M h) (enough M h (ltb maxPoints (pointsAfter M l)) refl z);
+        }
+          where
+            updating : (M : model.Map) → Holds m (t .tables) M → Updating m (t .tables) M l
+            updating M h = record {
+              holds = h;
+              radius = rw (← h .size, ← h .radius) (past .radius);
+              few = past .few;
+              order = past .order;
+              bounds = past .bounds;
+              room = fits (M .cells) (h .cells);
+            }
+
+            answer : (M : model.Map) → Holds m (t .tables) M → (p : Bool) → ltb maxPoints (pointsAfter M l) ≡ p → r .refusal ≡ cond p 7 0
+            answer M h true q = u .packed M (updating M h) q
+            answer M h false q = ap (λ (a : Changed). a .refusal) (u .done M (updating M h) q .answer)
+
+            enough : (M : model.Map) → Holds m (t .tables) M → (p : Bool) → ltb maxPoints (pointsAfter M l) ≡ p → r .refusal ≡ 0 → ltb maxPoints (pointsAfter M l) ≡ false
+            enough M h true q z = absurd (apart (sym (answer M h true q) ∙ z))
+            enough M h false q z = q

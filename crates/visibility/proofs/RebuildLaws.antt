@@ -1,0 +1,339 @@
+-- A change of the radius: its refusals in their order, and the tables drawn from no old point, which hold the model's map afterwards. Assumes nothing.
+use Prim.Native.Nat.{ℕ, zero, suc, _≤_, _<_, zero-le}
+use native.Mathlib.Omega.{arith}
+use mathlib.Core.Path.{_≡_, refl, sym, ap, _∙_, subst}
+use mathlib.Core.Bool.{Bool, true, false, cond, _&&_, _||_, true≢false}
+use mathlib.Core.List.{List, [], _∷_}
+use mathlib.Core.Option.{Option, none}
+use lib.Dec.{ltb}
+use lib.Ieee.{Float}
+use lib.ListN.{length, length-replicate, replicate, take}
+use borrow.Author.Tests.{le-ltb, lt-ltb, ltb-false}
+use Rattle.corner.specs.Changes.{Inner, numbered}
+use Rattle.grid.proofs.ApplyLaws.{inside-inner}
+use Rattle.grid.proofs.FloorLaws.{holds-cells}
+use Rattle.marks.specs.Marked.{Marking}
+use Rattle.marks.specs.Standing.{Standing}
+use Rattle.model.specs.Batch.{Batch}
+use Rattle.model.specs.Cell.{reach}
+use Rattle.model.specs.ClosedForm.{Closed}
+use Rattle.model.specs.Corner.{Bits, anyBit, cornerCells}
+use Rattle.model.specs.Good.{Good, bitsIn}
+use Rattle.model.specs.Layer.{Layer, Mark, Points, Tests, marks, update}
+use Rattle.model.specs.Limits.{maxCells, maxPoints, needCorners}
+use Rattle.model.specs.Map as model
+use Rattle.model.specs.Maps.{AscL, get, isSome, keys}
+use Rattle.model.specs.Refusal.{badRadius, badSize, firstOf, judge, packed, short, verdict}
+use Rattle.model.proofs.ClosedForm.{rebuild-closed}
+use Rattle.model.proofs.LayerLaws.{empty-inv}
+use Rattle.model.proofs.RunLaws.{passed}
+use Rattle.model.proofs.TestLaws.{lawful, tests-shift}
+use Rattle.sight.specs.Blocked.{Stood}
+use Rattle.sight.specs.Paired.{oldPair, pairAt, pairBetween, pairStart, pointAt}
+use Rattle.table.specs.Listed.{Listed}
+use Rattle.table.specs.Tables.{All, pad}
+use Rattle.table.proofs.AllLaws.{all-map}
+use Rattle.table.proofs.ListedLaws.{listed-cells, listed-numbers}
+use Rattle.visibility.specs.Holds.{Behind, Holds, Tables, needs}
+use Rattle.visibility.specs.Layers.{HoldsLayer, edgeAt, stoodOf}
+use Rattle.visibility.specs.Open.{refusedWith}
+use Rattle.visibility.specs.Radius.{Rebuilding, refuseRadius}
+use Rattle.visibility.specs.Redraw.{Drawing, Redrawn}
+use Rattle.visibility.specs.declared.map.Map.{Map}
+use Rattle.visibility.specs.declared.map.Outcome.{Outcome}
+use Rattle.visibility.proofs.BorderLaws.{corners-bordered, corners-length}
+use Rattle.visibility.proofs.DrawnLaws.{drawn-behind, drawn-holds}
+use Rattle.visibility.proofs.MarkLaws.{Marks, marked-count, marked-few, marked-keys, marked-many, marked-words, numbered-keys}
+use Rattle.visibility.proofs.NamedLaws.{pairs-named}
+use Rattle.visibility.proofs.OpenLaws.{Enough, long-enough}
+use Rattle.visibility.proofs.RefuseLaws.{radius-turn}
+use Rattle.visibility.proofs.StoodLaws.{fitting, left-few, marking, stood-keys, stood-length}
+
+-- ---- the refusals in turn
+module _ (s : Bool) (m : Map) (r : Float) where
+  pub radius-short : s ≡ true → 9 ≡ refuseRadius s m r
+  radius-short e = sym (radius-turn s m r ∙ rw e refl)
+
+  module _ (e : s ≡ false) where
+    pub radius-size : badSize (m .size) ≡ true → 1 ≡ refuseRadius s m r
+    radius-size f = sym (radius-turn s m r ∙ rw (e, f) refl)
+
+    module _ (f : badSize (m .size) ≡ false) where
+      pub radius-old : badRadius (m .size) (m .radius) ≡ true → 2 ≡ refuseRadius s m r
+      radius-old g = sym (radius-turn s m r ∙ rw (e, f, g) refl)
+
+      module _ (g : badRadius (m .size) (m .radius) ≡ false) where
+        pub radius-new : badRadius (m .size) r ≡ true → 2 ≡ refuseRadius s m r
+        radius-new h = sym (radius-turn s m r ∙ rw (e, f, g, h) refl)
+
+        module _ (h : badRadius (m .size) r ≡ false) where
+          pub radius-crowded : 1024 < m .cells → 6 ≡ refuseRadius s m r
+          radius-crowded k = sym (radius-turn s m r ∙ rw (e, f, g, h, lt-ltb 1024 (m .cells) k) refl)
+
+          module _ (k : m .cells ≤ 1024) where
+            pub radius-packed : 64 < m .points → 7 ≡ refuseRadius s m r
+            radius-packed w = sym (radius-turn s m r ∙ rw (e, f, g, h, le-ltb 1024 (m .cells) k, lt-ltb 64 (m .points) w) refl)
+
+            pub radius-passes : m .points ≤ 64 → 0 ≡ refuseRadius s m r
+            radius-passes w = sym (radius-turn s m r ∙ rw (e, f, g, h, le-ltb 1024 (m .cells) k, le-ltb 64 (m .points) w) refl)
+
+-- ---- where no point has an old place, the old pairs do not count
+abbrev New : Stood → Type 0
+New [] = Unit {0}
+New (e ∷ S) = (e .1 .old ≡ 0) × New S
+
+new-at : (S : Stood) → New S → (i : ℕ) → pointAt S i .1 .old ≡ 0
+new-at [] n i = refl
+new-at (e ∷ S) n zero = n .0
+new-at (e ∷ S) n (suc i) = new-at S (n .1) i
+
+stood-new : (ms : List Mark) (l : Points) → New (stoodOf ms [] l)
+stood-new ms [] = tt
+stood-new ms (e ∷ l) = (let h = left-few ms [] tt (e .0) in omega arith, stood-new ms l)
+
+module _ (t : Tests) (C : List ℕ) (ch : Batch) (P Q : ℕ → ℕ → Option (Option ℕ)) where
+  between-new : (p q : ℕ) (w v : Standing) → w .old ≡ 0 → pairBetween t C ch P p w q v ≡ pairBetween t C ch Q p w q v
+  unfolding pairBetween pairStart oldPair
+  between-new p q w v e = rw e refl
+
+  pairs-new : (S : Stood) → New S → (i j : ℕ) → pairAt t C ch P S i j ≡ pairAt t C ch Q S i j
+  unfolding pairAt
+  pairs-new S n i j =
+      let p = pointAt S i in
+      let q = pointAt S j in
+      λ z. cond (ltb i j && ltb j (length S)) (between-new (p .0) (q .0) (p .1) (q .1) (new-at S n i) z)
+      (cond (ltb j i && ltb i (length S)) (between-new (q .0) (p .0) (q .1) (p .1) (new-at S n j) z) none)
+
+-- ---- what the input alone decides, and what the model says of a map that is held
+module _ (m : Map) (r : Float) (t : Tables) where
+  abbrev firstly : ℕ → ℕ
+  firstly n = cond (short (needs t)) 9 (cond (badSize (m .size)) 1 (cond (badRadius (m .size) (m .radius) || badRadius (m .size) r) 2 n))
+
+  firstly-some : (n : ℕ) → (firstly 0 ≡ 0 → ⊥) → firstly 0 ≡ firstly n
+  firstly-some n f = go (short (needs t)) (badSize (m .size)) (badRadius (m .size) (m .radius) || badRadius (m .size) r) f
+    where
+      go : (x y z : Bool) → (_≡_ {A = ℕ} (cond x 9 (cond y 1 (cond z 2 0))) 0 → ⊥) → _≡_ {A = ℕ} (cond x 9 (cond y 1 (cond z 2 0))) (cond x 9 (cond y 1 (cond z 2 n)))
+      go true y z f = refl
+      go false true z f = refl
+      go false false true f = refl
+      go false false false f = absurd (f refl)
+
+  firstly-none : (n : ℕ) → firstly 0 ≡ 0 → n ≡ firstly n
+  firstly-none n e = go (short (needs t)) (badSize (m .size)) (badRadius (m .size) (m .radius) || badRadius (m .size) r) e
+    where
+      apart : {k : ℕ} → suc k ≡ 0 → ⊥
+      apart e = omega arith
+
+      go : (x y z : Bool) → _≡_ {A = ℕ} (cond x 9 (cond y 1 (cond z 2 0))) 0 → n ≡ cond x 9 (cond y 1 (cond z 2 n))
+      go true y z e = absurd (apart e)
+      go false true z e = absurd (apart e)
+      go false false true e = absurd (apart e)
+      go false false false e = refl
+
+  module _ {M : model.Map} (h : Holds m t M) where
+    abbrev M′ : model.Map
+    M′ = model.next (model.radius r) M
+
+    judged : judge (needs t) (model.radius r) M M′ ≡ firstly (cond (packed M′) 7 0)
+    unfolding judge verdict firstOf
+    judged = rw (h .size, h .radius, le-ltb maxCells (length (M .cells)) (h .cells .room), le-ltb maxPoints (length (M .layer .points)) (h .layer .room)) refl
+
+    by-input : refuseRadius (short (needs t)) m r ≡ firstly 0
+    by-input =
+        let a : m .cells ≡ length (M .cells) = h .cells .count in
+        let b : m .points ≡ length (M .layer .points) = h .layer .count in
+        let x : m .cells ≤ 1024 = omega (arith, a, h .cells .room) in
+        let y : m .points ≤ 64 = omega (arith, b, h .layer .room) in
+        radius-turn (short (needs t)) m r ∙ rw (le-ltb 1024 (m .cells) x, le-ltb 64 (m .points) y) refl
+
+    -- the input refuses, or nothing but the number of points afterwards may
+    judged-input : (n : ℕ) → n ≡ refuseRadius (short (needs t)) m r → (n ≡ 0 → ⊥) → n ≡ judge (needs t) (model.radius r) M M′
+    judged-input n e f = e ∙ by-input ∙ firstly-some (cond (packed M′) 7 0) (λ z. f (e ∙ by-input ∙ z)) ∙ sym judged
+
+    judged-points : refuseRadius (short (needs t)) m r ≡ 0 → (b : Bool) → packed M′ ≡ b → cond b 7 0 ≡ judge (needs t) (model.radius r) M M′
+    judged-points e b p = ap (λ (x : Bool). cond x 7 0) (sym p) ∙ firstly-none (cond (packed M′) 7 0) (sym by-input ∙ e) ∙ sym judged
+
+  -- a refused call leaves the tables as they were
+  rebuild-refused : (n : ℕ) (o : Outcome) → (n ≡ 0 → ⊥) → o ≡ refusedWith n → ((k : ℕ) → refuseRadius (short (needs t)) m r ≡ suc k → n ≡ suc k)
+      → ((M : model.Map) → Holds m t M → n ≡ judge (needs t) (model.radius r) M (model.next (model.radius r) M)) → Rebuilding m r t t o
+  rebuild-refused n o f q input model =
+      record {
+        input = λ k e. q ∙ ap refusedWith (input k e);
+        refusal = λ M h. number ∙ model M h;
+        refused = λ k z. (refl, q ∙ ap refusedWith (sym number ∙ z));
+        answer = λ M h z. absurd (f (sym number ∙ z));
+        holds = λ M h z. absurd (f (sym number ∙ z));
+        behind = λ M h z. absurd (f (sym number ∙ z));
+      }
+    where
+      number : o .refusal ≡ n
+      number = ap (λ (w : Outcome). w .refusal) q
+
+  -- by the input
+  pub rebuild-input : (n : ℕ) (o : Outcome) → n ≡ refuseRadius (short (needs t)) m r → (n ≡ 0 → ⊥) → o ≡ refusedWith n → Rebuilding m r t t o
+  rebuild-input n o e f q = rebuild-refused n o f q (λ k z. e ∙ z) (λ M h. judged-input h n e f)
+
+-- ---- what the steps promise: the corners of the cells u; the tables t drawn anew as t′
+abbrev pub Corners : List ℕ → List ℕ → List ℕ → List ℕ → List ℕ → ℕ → Type 0
+Corners u out out′ statuses statuses′ r =
+    AscL 0 u → All Inner u → length u ≤ length out → length u ≤ length statuses → Listed (numbered (cornerCells u)) out out′ statuses statuses′ r
+
+abbrev pub Draws : Float → Float → ℕ → List ℕ → List ℕ → List ℕ → List ℕ → List ℕ → ℕ → ℕ → Tables → Tables → Type 0
+Draws size radius near u turned full ks moods n count t t′ =
+    (ch : Batch) (S : Stood) (B : List (Option ℕ)) (P : ℕ → ℕ → Option (Option ℕ)) → near ≡ reach (model.shiftOf size radius)
+    → Drawing u ch S B P turned full ks moods (t .points) (t .statuses) (t .blockers) (t .pairs) n count
+    → Redrawn (model.tests size radius) u ch S B P (t .points) (t′ .points) (t .statuses) (t′ .statuses) (t .blockers) (t′ .blockers) (t .pairs) (t′ .pairs)
+
+or-right : (a b : Bool) → a || b ≡ false → b ≡ false
+or-right true b e = absurd (true≢false e)
+or-right false b e = e
+
+-- ---- once the input has passed: the radius r of the map that m and t hold
+module _ (m : Map) (r : Float) (t : Tables) (pass : refuseRadius (short (needs t)) m r ≡ 0) where
+  abbrev T : Tests
+  T = model.tests (m .size) r
+
+  new-radius : badRadius (m .size) r ≡ false
+  unfolding refuseRadius
+  new-radius = or-right (badRadius (m .size) (m .radius)) (badRadius (m .size) r) (passed _ pass .radius)
+
+  pub rebuild-room : Enough (needs t)
+  unfolding refuseRadius
+  rebuild-room = long-enough (needs t) (passed _ pass .short)
+
+  pub rebuild-cells : m .cells ≤ maxCells
+  unfolding refuseRadius
+  rebuild-cells = ltb-false maxCells (m .cells) (passed _ pass .cells)
+
+  module _ {M : model.Map} (h : Holds m t M) where
+    abbrev C : List ℕ
+    C = M .cells
+
+    abbrev cs : List (ℕ × Bits)
+    cs = cornerCells C
+
+    abbrev l′ : Layer
+    l′ = model.next (model.radius r) M .layer
+
+    abbrev S : Stood
+    S = stoodOf (marks (T .shift) cs) [] (l′ .points)
+
+    -- the layer afterwards is the closed form, of no old layer
+    closed : Closed T C [] (marks (T .shift) cs) (model.emptyLayer r) l′
+    unfolding model.next model.rebuilt
+    closed = rw (h .size) (rebuild-closed (model.tests (M .size) r) (lawful (M .size) r (rw (h .size) at new-radius)) C (h .good .cellOrder) (h .good .inside) r)
+
+    real : (k : ℕ) → isSome (get k (model.emptyLayer r .points)) ≡ anyBit (bitsIn (model.emptyLayer r .points) k)
+    real = empty-inv r .real
+
+    corners-few : length cs ≤ needCorners
+    corners-few = let x = corners-length C in omega (arith, x, h .cells .room)
+
+    same-cells : take (m .cells) (t .cells) ≡ C
+    same-cells = holds-cells (t .cells) (m .cells) C (h .cells)
+
+    module _ {corners bits ks moods : List ℕ} {found shift n : ℕ} (f : Corners (take (m .cells) (t .cells)) (replicate maxCells 0) corners (replicate maxCells 0) bits found)
+        (e : shift ≡ model.shiftOf (m .size) r) (g : Marks shift [] [] (take found corners) (take found bits) (replicate maxPoints 0) ks (replicate maxPoints 0) moods n) where
+      listed : Listed (numbered cs) (replicate maxCells 0) corners (replicate maxCells 0) bits found
+      listed =
+          let z : length C ≤ length (replicate {A = ℕ} maxCells 0) = rw (length-replicate {A = ℕ} maxCells 0) (h .cells .room) in
+          subst (λ (u : List ℕ). Corners u (replicate maxCells 0) corners (replicate maxCells 0) bits found) same-cells f (h .cells .order) (all-map C inside-inner (h .cells .inside)) z z
+
+      given : Marking (T .shift) [] cs [] [] (take found corners) (take found bits)
+      unfolding keys
+      given =
+          marking cs closed tt (lawful (m .size) r new-radius .small) zero-le corners-few (corners-bordered C (h .cells .inside)) [] [] (take found corners) (take found bits) refl refl
+          (listed-cells (numbered cs) (replicate maxCells 0) corners (replicate maxCells 0) bits found listed ∙ numbered-keys cs)
+          (listed-numbers (numbered cs) (replicate maxCells 0) corners (replicate maxCells 0) bits found listed)
+
+      marked : Marks (T .shift) [] [] (take found corners) (take found bits) (replicate maxPoints 0) ks (replicate maxPoints 0) moods n
+      marked =
+          subst (λ (v : ℕ). Marks v [] [] (take found corners) (take found bits) (replicate maxPoints 0) ks (replicate maxPoints 0) moods n) (e ∙ sym (tests-shift (m .size) r)) g
+
+      many : maxPoints < n → maxPoints < length (l′ .points)
+      many = marked-many cs closed tt given marked
+
+      few : n ≤ maxPoints → length (l′ .points) ≤ maxPoints
+      few = marked-few cs closed tt given marked
+
+      module _ (room : length (l′ .points) ≤ maxPoints) where
+        count : n ≡ length (l′ .points)
+        count = marked-count cs closed tt given marked room
+
+        -- what the drawing is handed
+        drawing : Drawing C [] S [] (edgeAt (M .layer)) [] [] ks moods (t .points) (t .statuses) (t .blockers) (t .pairs) n 0
+        unfolding keys
+        drawing =
+            let long = stood-length (marks (T .shift) cs) [] (l′ .points) in
+            record {
+              seeing = record {
+                order = h .cells .order;
+                inside = h .cells .inside;
+                changes = tt;
+                fitting = fitting cs closed tt zero-le corners-few;
+                turnedAre = refl;
+                fullAre = refl;
+                pointsAre = refl;
+                moodsAre = refl;
+              };
+              number = count ∙ sym long;
+              few = rw long room;
+              keysAre = marked-keys cs closed tt given marked room ∙ ap (pad maxPoints) (sym (stood-keys (marks (T .shift) cs) [] (l′ .points)));
+              moodsAre = marked-words cs closed tt given marked room;
+              blocks = refl;
+              blocksNamed = tt;
+              pairsAre = h .layer .pairsAre;
+              pairsNamed = pairs-named (h .good);
+              pointsRoom = rebuild-room .1 .0;
+              statusesRoom = rebuild-room .1 .1 .0;
+              blockersRoom = rebuild-room .1 .1 .1 .0;
+              pairsRoom = rebuild-room .1 .1 .1 .1 .0;
+            }
+
+        module _ (t′ : Tables) {near : ℕ} (same : t′ .cells ≡ t .cells) (v : near ≡ reach shift) (d : Draws (m .size) r near (take (m .cells) (t .cells)) [] [] ks moods n 0 t t′) where
+          drawn : Redrawn T C [] S [] (edgeAt (M .layer)) (t .points) (t′ .points) (t .statuses) (t′ .statuses) (t .blockers) (t′ .blockers) (t .pairs) (t′ .pairs)
+          drawn = subst (λ (u : List ℕ). Draws (m .size) r near u [] [] ks moods n 0 t t′) same-cells d [] S [] (edgeAt (M .layer)) (v ∙ ap reach e) drawing
+
+          held : HoldsLayer (t′ .points) (t′ .statuses) (t′ .blockers) (t′ .pairs) n l′
+          held =
+              drawn-holds closed tt real room t t′ drawn (pairs-new T C [] (edgeAt (M .layer)) (edgeAt (model.emptyLayer r)) S (stood-new (marks (T .shift) cs) (l′ .points)))
+              (rebuild-room .1 .1 .1 .1 .0) n count
+
+          holds : Holds (record { size = m .size; radius = r; cells = m .cells; points = n }) t′ (model.next (model.radius r) M)
+          unfolding model.next model.rebuilt update
+          holds =
+              record {
+                size = h .size;
+                radius = refl;
+                cells = rw same (h .cells);
+                layer = held;
+                good = subst (λ (z : ℕ). Good z C l′) (tests-shift (m .size) r ∙ ap (λ (c : Float). model.shiftOf c r) (h .size)) (closed .good);
+              }
+
+          behind : Behind t t′
+          behind = drawn-behind closed tt real room t t′ drawn (rw same refl)
+
+  -- ---- the call
+  module _ {corners bits ks moods : List ℕ} {found shift n : ℕ} (f : Corners (take (m .cells) (t .cells)) (replicate maxCells 0) corners (replicate maxCells 0) bits found)
+      (e : shift ≡ model.shiftOf (m .size) r) (g : Marks shift [] [] (take found corners) (take found bits) (replicate maxPoints 0) ks (replicate maxPoints 0) moods n) where
+    -- too many points: nothing is altered
+    pub rebuild-packed : (o : Outcome) → maxPoints < n → o ≡ refusedWith 7 → Rebuilding m r t t o
+    rebuild-packed o k q =
+        rebuild-refused m r t 7 o (λ z. omega arith) q (λ i z. absurd (let a : 0 ≡ suc i = sym pass ∙ z in omega arith))
+        (λ M h. judged-points m r t h pass true (lt-ltb maxPoints _ (many h f e g k)))
+
+    -- else the tables drawn anew
+    pub rebuild-done : (t′ : Tables) (near : ℕ) → t′ .cells ≡ t .cells → n ≤ maxPoints → near ≡ reach shift → Draws (m .size) r near (take (m .cells) (t .cells)) [] [] ks moods n 0 t t′
+        → Rebuilding m r t t′ (record { refusal = 0; map = record { size = m .size; radius = r; cells = m .cells; points = n } })
+    rebuild-done t′ near same k v d =
+        record {
+          input = λ i z. absurd (apart i (sym pass ∙ z));
+          refusal = λ M h. judged-points m r t h pass false (le-ltb maxPoints _ (few h f e g k));
+          refused = λ i z. absurd (apart i z);
+          answer = λ M h z. ap (λ (i : ℕ). record { size = m .size; radius = r; cells = m .cells; points = i }) (count h f e g (few h f e g k));
+          holds = λ M h z. holds h f e g (few h f e g k) t′ same v d;
+          behind = λ M h z. behind h f e g (few h f e g k) t′ same v d;
+        }
+      where
+        apart : (i : ℕ) → 0 ≡ suc i → ⊥
+        apart i z = omega arith

@@ -1,0 +1,178 @@
+-- A batch that nothing but the number of points may refuse: the layer afterwards in closed form, the lists handed on, and what the call comes to. Assumes nothing.
+use Prim.Native.Nat.{ℕ, _≤_, _<_}
+use native.Mathlib.Omega.{arith}
+use mathlib.Core.Path.{_≡_, refl, sym, ap, _∙_, subst}
+use mathlib.Core.Logic.{inl, inr}
+use mathlib.Core.Bool.{false}
+use mathlib.Core.List.{List}
+use lib.Ieee.{Float}
+use lib.ListN.{length, replicate, take}
+use borrow.Author.Tests.{ltb-false, ltb-true}
+use Rattle.corner.specs.Changes.{numbered}
+use Rattle.grid.specs.Batches.{flags}
+use Rattle.grid.proofs.BatchLaws.{Settled, batch-length, settled}
+use Rattle.grid.proofs.FloorLaws.{holds-cells}
+use Rattle.marks.specs.Marked.{Marking}
+use Rattle.model.specs.Batch.{Batch, cellsAfter, confirmed, cornerChanges}
+use Rattle.model.specs.Cell.{reach}
+use Rattle.model.specs.ClosedForm.{Closed, marksIn}
+use Rattle.model.specs.Corner.{Bits}
+use Rattle.model.specs.Good.{Good}
+use Rattle.model.specs.Layer.{Tests, marks}
+use Rattle.model.specs.Limits.{maxPoints, needConfirmed, needCorners}
+use Rattle.model.specs.Map as model
+use Rattle.model.specs.Maps.{AscL}
+use Rattle.model.specs.Refusal.{outside, unsorted}
+use Rattle.model.proofs.ClosedForm.{change-closed}
+use Rattle.model.proofs.LayerLaws.{Lawful}
+use Rattle.model.proofs.RunLaws.{batch-ascends, batch-inside}
+use Rattle.model.proofs.TestLaws.{lawful, tests-shift}
+use Rattle.sight.specs.Blocked.{wordsOf}
+use Rattle.table.specs.Listed.{Listed}
+use Rattle.table.proofs.ListedLaws.{listed-cells, listed-numbers}
+use Rattle.visibility.specs.Change.{Done, Lent, changesOf, cornersOf, refusedWith}
+use Rattle.visibility.specs.Holds.{Tables}
+use Rattle.visibility.specs.Layers.{stoodOf}
+use Rattle.visibility.specs.Update.{Finishing, Updated, Updating, pointsAfter}
+use Rattle.visibility.specs.declared.change.Changed.{Changed}
+use Rattle.visibility.specs.declared.map.Map.{Map}
+use Rattle.visibility.proofs.BorderLaws.{changes-bordered, changes-length}
+use Rattle.visibility.proofs.LayerLaws.{layer-keys, layer-statuses}
+use Rattle.visibility.proofs.MarkLaws.{Marks, left-few, left-many, numbered-keys}
+use Rattle.visibility.proofs.StoodLaws.{marking}
+
+-- what the listing promises, of the cells u
+abbrev pub Lists : List model.Entry → List ℕ → List ℕ → List ℕ → List ℕ → List ℕ → List ℕ → List ℕ → List ℕ → List ℕ → ℕ → ℕ → Type 0
+Lists l u turned turned′ says says′ corners corners′ bits bits′ changes found =
+    AscL 0 u → unsorted l ≡ false → outside l ≡ false
+    → Listed (flags (confirmed (model.toBatch l) u)) turned turned′ says says′ changes
+    × Listed (numbered (cornerChanges u (cellsAfter (model.toBatch l) u) (confirmed (model.toBatch l) u))) corners corners′ bits bits′ found
+
+-- ---- the batch l on the map M, which m and t hold
+module _ {m : Map} {t : Tables} {M : model.Map} {l : List model.Entry} (u : Updating m t M l) where
+  abbrev T : Tests
+  T = model.tests (M .size) (M .layer .radius)
+
+  abbrev C : List ℕ
+  C = M .cells
+
+  abbrev b : Batch
+  b = model.toBatch l
+
+  abbrev C′ : List ℕ
+  C′ = cellsAfter b C
+
+  abbrev ch : Batch
+  ch = confirmed b C
+
+  abbrev cs : List (ℕ × Bits)
+  cs = cornerChanges C C′ ch
+
+  abbrev M′ : model.Map
+  M′ = model.next (model.batch l) M
+
+  same-shift : T .shift ≡ model.shiftOf (M .size) (M .layer .radius)
+  same-shift = tests-shift (M .size) (M .layer .radius)
+
+  law : Lawful T
+  law = lawful (M .size) (M .layer .radius) (u .radius)
+
+  pub update-settled : Settled b C
+  update-settled = settled l C (u .holds .cells .order) (u .order) (u .bounds)
+
+  -- the layer afterwards is the closed form
+  pub update-closed : Closed T C′ ch (marksIn (T .shift) C b) (M .layer) (M′ .layer)
+  unfolding model.next model.changed
+  update-closed =
+      change-closed T law C (M .layer) (subst (λ (z : ℕ). Good z C (M .layer)) (sym same-shift) (u .holds .good)) b (batch-ascends l (u .order) (u .bounds)) (batch-inside l (u .bounds))
+
+  pub corners-few : length cs ≤ needCorners
+  corners-few =
+      let x = changes-length C C′ ch in
+      let y = update-settled .fewer in
+      let z : length b ≡ length l = batch-length l in
+      omega (arith, x, y, z, u .few)
+
+  -- the lists of the changes and of the corners
+  module _ {turned turned′ says says′ corners corners′ bits bits′ : List ℕ} {changes found : ℕ}
+      (f : Lists l (take (m .cells) (t .cells)) turned turned′ says says′ corners corners′ bits bits′ changes found) where
+    lists : Listed (changesOf M l) turned turned′ says says′ changes × Listed (cornersOf M l) corners corners′ bits bits′ found
+    lists =
+        subst (λ (v : List ℕ). Lists l v turned turned′ says says′ corners corners′ bits bits′ changes found) (holds-cells (t .cells) (m .cells) C (u .holds .cells)) f
+        (u .holds .cells .order) (u .order) (u .bounds)
+
+    given : Marking (T .shift) (M .layer .points) cs (take (m .points) (t .points)) (take (m .points) (t .statuses)) (take found corners′) (take found bits′)
+    given =
+        let w : Listed (cornersOf M l) corners corners′ bits bits′ found = lists .1 in
+        marking cs update-closed (u .holds .good .pointOrder) (law .small) (u .holds .layer .room) corners-few
+        (changes-bordered C C′ ch (update-settled .inside)) (take (m .points) (t .points)) (take (m .points) (t .statuses)) (take found corners′) (take found bits′)
+        (layer-keys (u .holds .layer)) (layer-statuses (u .holds .layer)) (listed-cells (cornersOf M l) corners corners′ bits bits′ found w ∙ numbered-keys cs)
+        (listed-numbers (cornersOf M l) corners corners′ bits bits′ found w)
+
+    -- the points that the marks leave
+    module _ {shift n : ℕ} {ks moods : List ℕ} (e : shift ≡ model.shiftOf (m .size) (m .radius))
+        (g : Marks shift (take (m .points) (t .points)) (take (m .points) (t .statuses)) (take found corners′) (take found bits′) (replicate maxPoints 0) ks (replicate maxPoints 0) moods n) where
+      shift-is : shift ≡ model.shiftOf (M .size) (M .layer .radius)
+      shift-is = e ∙ ap (λ (z : Float). model.shiftOf z (m .radius)) (u .holds .size) ∙ ap (model.shiftOf (M .size)) (u .holds .radius)
+
+      marked : Marks (T .shift) (take (m .points) (t .points)) (take (m .points) (t .statuses)) (take found corners′) (take found bits′) (replicate maxPoints 0) ks (replicate maxPoints 0) moods n
+      marked =
+          subst (λ (v : ℕ). Marks v (take (m .points) (t .points)) (take (m .points) (t .statuses)) (take found corners′) (take found bits′) (replicate maxPoints 0) ks (replicate maxPoints 0) moods n)
+          (shift-is ∙ sym same-shift) g
+
+      too-many : maxPoints < pointsAfter M l → n ≡ 65
+      too-many = left-many cs update-closed (u .holds .good .pointOrder) given marked
+
+      finishing : pointsAfter M l ≤ maxPoints → Finishing m t M l (take changes turned′) (take changes says′) (take found corners′) (take found bits′) ks moods n
+      finishing h =
+          let w = left-few cs update-closed (u .holds .good .pointOrder) given marked h in
+          let p = lists .0 in
+          let q = lists .1 in
+          record {
+            updating = u;
+            packed = h;
+            turnedAre = listed-cells (changesOf M l) turned turned′ says says′ changes p;
+            fullAre = listed-numbers (changesOf M l) turned turned′ says says′ changes p;
+            cornersAre = listed-cells (cornersOf M l) corners corners′ bits bits′ found q;
+            bitsAre = listed-numbers (cornersOf M l) corners corners′ bits bits′ found q;
+            number = w .0;
+            keysAre = w .1;
+            moodsAre = w .2 ∙ ap (λ (v : ℕ). wordsOf (stoodOf (marks v cs) (M .layer .points) (M′ .layer .points))) same-shift;
+          }
+
+-- ---- the call
+module _ (m : Map) (l : List model.Entry) (t : Lent) {turned turned′ says says′ corners corners′ bits bits′ ks moods : List ℕ} {changes found shift n : ℕ}
+    (f : Lists l (take (m .cells) (t .tables .cells)) turned turned′ says says′ corners corners′ bits bits′ changes found) (e : shift ≡ model.shiftOf (m .size) (m .radius))
+    (g : Marks shift (take (m .points) (t .tables .points)) (take (m .points) (t .tables .statuses)) (take found corners′) (take found bits′) (replicate maxPoints 0) ks (replicate maxPoints 0) moods n) where
+  -- too many points: nothing is altered
+  pub update-refused : (r : Changed) → maxPoints < n → r ≡ refusedWith 7 → Updated m l t t r
+  update-refused r h q =
+      record {
+        either = inr (q, refl);
+        packed = λ M u z. ap (λ (x : Changed). x .refusal) q;
+        done = λ M u z. absurd (full M u (ltb-false maxPoints (pointsAfter M l) z));
+      }
+    where
+      full : (M : model.Map) → Updating m (t .tables) M l → pointsAfter M l ≤ maxPoints → ⊥
+      full M u z = let k : n ≡ pointsAfter M l = finishing u f e g z .number in omega (arith, h, z, k)
+
+  -- else the rest is done
+  abbrev Finished : Lent → Changed → ℕ → Type 0
+  Finished t′ r near =
+      (r .refusal ≡ 0)
+      × ((M : model.Map) (k : List model.Entry) → near ≡ reach (model.shiftOf (M .size) (M .layer .radius))
+      → Finishing m (t .tables) M k (take changes turned′) (take changes says′) (take found corners′) (take found bits′) ks moods n
+      → needConfirmed ≤ length (t .confirmed) → needConfirmed ≤ length (t .full) → needCorners ≤ length (t .corners) → needCorners ≤ length (t .altered) → Done m M k t t′ r)
+
+  pub update-finished : (t′ : Lent) (r : Changed) (near : ℕ) → n ≤ maxPoints → near ≡ reach shift
+      → needConfirmed ≤ length (t .confirmed) → needConfirmed ≤ length (t .full) → needCorners ≤ length (t .corners) → needCorners ≤ length (t .altered)
+      → Finished t′ r near → Updated m l t t′ r
+  update-finished t′ r near h q x y z v w =
+      record {
+        either = inl (w .0);
+        packed = λ M u o. absurd (full M u (ltb-true maxPoints (pointsAfter M l) o));
+        done = λ M u o. w .1 M l (q ∙ ap reach (shift-is u f e g)) (finishing u f e g (ltb-false maxPoints (pointsAfter M l) o)) x y z v;
+      }
+    where
+      full : (M : model.Map) → Updating m (t .tables) M l → maxPoints < pointsAfter M l → ⊥
+      full M u o = let k : n ≡ 65 = too-many u f e g o in omega (arith, h, k)

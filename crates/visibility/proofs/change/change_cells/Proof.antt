@@ -1,0 +1,224 @@
+-- `change::change_cells`: what the input alone refuses, then the cells' number, then the points', then the batch. Assumes nothing.
+use native.Mathlib.Omega.{arith}
+use mathlib.Core.Path.{_≡_, refl, sym, ap, _∙_}
+use mathlib.Core.Logic.{⊎-elim, inl, inr}
+use mathlib.Core.Bool.{Bool, false}
+use lib.Dec.{ltb}
+use lib.Seq.{length-take-le}
+use borrow.Author.Needs.{needs}
+use Rattle.grid.specs.Batches.{entries}
+use Rattle.model.specs.Refusal.{short}
+use Rattle.visibility.specs.Change.{Lent, lentNeeds, refuseBatch}
+use Rattle.visibility.specs.Holds as tables
+use Rattle.visibility.proofs.ChangeLaws.{Passed, batch-passed, crowded-refused, early-refused, packed-refused, short-either, updated}
+use Rattle.visibility.proofs.OpenLaws.{Enough, long-enough}
+use Rattle.visibility.proofs.change.change_cells.Statement.{statement}
+use Rattle.visibility.proofs.change.change_cells.Tie as tie
+
+-- the places: the start; past the input's refusals; past the cells' number; past the points'; the batch done
+abbrev start : tie.After-judge → tie.Start
+start p = p .before .before .before .before .before .before .before .before .before .before .before .before .before
+
+abbrev entry : tie.After-count-after → tie.Else2
+entry p = p .before .before
+
+abbrev fitting : tie.Else4 → tie.Else3
+fitting p = p .before .before
+
+abbrev ready : tie.After-update-arg9 → tie.Else4
+ready p = p .before .before .before .before .before .before .before .before .before
+
+abbrev ended : tie.After-slice-known18 → tie.After-update
+ended p = p .before .before .before .before .before .before .before .before .before .before .before .before .before .before .before .before .before .before
+
+-- the tables as they are lent
+abbrev lent : tie.Start → Lent
+lent s =
+    let a = s .args in
+    record {
+      tables = record { cells = a .cells .now; points = a .points .now; statuses = a .statuses .now; blockers = a .blockers .now; pairs = a .pairs .now };
+      confirmed = a .confirmed .now;
+      full = a .full .now;
+      corners = a .corners .now;
+      altered = a .altered .now;
+    }
+
+-- and as `update` gives them back
+abbrev given : tie.After-update → Lent
+given p =
+    let a = p .update .last .1 in
+    let o = a .1 .1 .1 .1 .1 .1 in
+    record {
+      tables = record { cells = a .0; points = a .1 .0; statuses = a .1 .1 .0; blockers = a .1 .1 .1 .0; pairs = a .1 .1 .1 .1 .0 };
+      confirmed = o .0;
+      full = o .1 .0;
+      corners = o .1 .1 .0;
+      altered = o .1 .1 .1 .0;
+    }
+
+-- the refusal that is due by the input
+due : (j : tie.After-judge) →
+    let a = start j .args in
+    j .judge .result ≡ refuseBatch (short (lentNeeds (lent (start j)))) (a .map) (entries (a .batch .now)) (ltb 1024 (a .map .cells)) false
+due j =
+    let a = start j .args in
+    let i = j .before in
+    let o = i .before in
+    let t = lent (start j) in
+    j .judge .ensures
+    ∙ ap (λ (s : Bool). refuseBatch s (a .map) (entries (a .batch .now)) (ltb 1024 (a .map .cells)) false)
+    (short-either (tables.needs (t .tables)) _ (o .before .short-tables .result) (o .short-outputs .result) (i .if1 .short) (o .before .short-tables .ensures) (o .short-outputs .ensures)
+    (⊎-elim (λ w. inl (w .0 .taken, w .1)) (λ w. inr (w .0 .left, w .1)) (i .if1 .came)))
+
+none : (c : tie.Else2) →
+    let a = start (c .before) .args in
+    0 ≡ refuseBatch (short (lentNeeds (lent (start (c .before))))) (a .map) (entries (a .batch .now)) (ltb 1024 (a .map .cells)) false
+none c = sym (c .if2 .left) ∙ due (c .before)
+
+passed : (c : tie.Else2) →
+    let a = start (c .before) .args in
+    Passed (short (lentNeeds (lent (start (c .before))))) (a .map) (entries (a .batch .now))
+passed c =
+    let a = start (c .before) .args in
+    batch-passed (short (lentNeeds (lent (start (c .before))))) (a .map) (entries (a .batch .now)) (sym (none c))
+
+long : (c : tie.Else2) → Enough (lentNeeds (lent (start (c .before))))
+long c = long-enough (lentNeeds (lent (start (c .before)))) (passed c .long)
+
+short-tables-requires : tie.Need-short-tables-requires
+short-tables-requires c κs = search needs
+
+short-outputs-requires : tie.Need-short-outputs-requires
+short-outputs-requires c κs = search needs
+
+judge-requires : tie.Need-judge-requires
+judge-requires c κs = search needs
+
+refused-requires : tie.Need-refused-requires
+refused-requires c κs = search needs
+
+returns : tie.Need-returns
+returns c =
+    let j = c .before .before in
+    let a = start j .args in
+    early-refused (a .map) (a .batch .now) (lent (start j)) _ (c .refused .result) (j .judge .result) (c .before .if2 .taken) (due j) (c .refused .ensures) refl
+
+slice-reshare-prefix-count-after : tie.Need-slice-reshare-prefix-count-after
+slice-reshare-prefix-count-after c =
+    let l = long c .0 in
+    let s = passed c .small in
+    omega (arith, l, s)
+
+slice-aggregate-count-after : tie.Need-slice-aggregate-count-after
+slice-aggregate-count-after c =
+    let e = c .before in
+    let a = start (e .before) .args in
+    let l = long e .0 in
+    let s = passed e .small in
+    sym (length-take-le (a .map .cells) (a .cells .now) (omega (arith, l, s)))
+
+count-after-requires : tie.Need-count-after-requires
+count-after-requires c κs = search needs
+
+refused-requires-2 : tie.Need-refused-requires-2
+refused-requires-2 c κs = search needs
+
+same-length : tie.Need-same-length
+same-length c = search needs
+
+returns-2 : tie.Need-returns-2
+returns-2 c =
+    let k = c .before .before in
+    let e = entry k in
+    let a = start (e .before) .args in
+    crowded-refused (a .map) (a .batch .now) (lent (start (e .before))) _ (c .refused2 .result) (none e) (k .count-after .result) (k .count-after .ensures) (c .before .if3 .taken) (c .refused2 .ensures) refl
+
+refused-requires-3 : tie.Need-refused-requires-3
+refused-requires-3 c κs = search needs
+
+same-length-2 : tie.Need-same-length-2
+same-length-2 c = search needs
+
+returns-3 : tie.Need-returns-3
+returns-3 c =
+    let g = c .before .before .before in
+    let k = g .before in
+    let e = entry k in
+    let a = start (e .before) .args in
+    packed-refused (a .map) (a .batch .now) (lent (start (e .before))) _ (c .refused3 .result) (none e) (k .count-after .result) (k .count-after .ensures) (g .if3 .left) (c .before .if4 .taken) (c .refused3 .ensures) refl
+
+update-requires : tie.Need-update-requires
+update-requires c κs =
+    let f = ready c in
+    let e = entry (fitting f .before) in
+    let q = passed e in
+    let n = long e in
+    let o = n .1 .1 .1 .1 .1 in
+    (q .small, n .0, f .if4 .left, n .1 .0, n .1 .1 .0, n .1 .1 .1 .0, q .few, o .0, o .1 .0, o .1 .1 .0, o .1 .1 .1 .0)
+
+same-length-3 : tie.Need-same-length-3
+same-length-3 c = search needs
+
+same-length-4 : tie.Need-same-length-4
+same-length-4 c = search needs
+
+same-length-5 : tie.Need-same-length-5
+same-length-5 c = search needs
+
+same-length-6 : tie.Need-same-length-6
+same-length-6 c = search needs
+
+same-length-7 : tie.Need-same-length-7
+same-length-7 c = search needs
+
+same-length-8 : tie.Need-same-length-8
+same-length-8 c = search needs
+
+same-length-9 : tie.Need-same-length-9
+same-length-9 c = search needs
+
+same-length-10 : tie.Need-same-length-10
+same-length-10 c = search needs
+
+same-length-11 : tie.Need-same-length-11
+same-length-11 c = search needs
+
+returns-4 : tie.Need-returns-4
+returns-4 c =
+    let y = ended c in
+    let f = ready (y .before) in
+    let g = fitting f in
+    let k = g .before in
+    let e = entry k in
+    let a = start (e .before) .args in
+    updated (a .map) (a .batch .now) (lent (start (e .before))) (given y) (y .update .result) (none e) (k .count-after .result) (k .count-after .ensures) (g .if3 .left) (f .if4 .left) (y .update .ensures)
+
+pub change-cells-spec : {M : Type 1} → statement M
+change-cells-spec =
+    tie.close
+    (tie.spec
+    short-tables-requires
+    short-outputs-requires
+    judge-requires
+    refused-requires
+    returns
+    slice-reshare-prefix-count-after
+    slice-aggregate-count-after
+    count-after-requires
+    refused-requires-2
+    same-length
+    returns-2
+    refused-requires-3
+    same-length-2
+    returns-3
+    update-requires
+    same-length-3
+    same-length-4
+    same-length-5
+    same-length-6
+    same-length-7
+    same-length-8
+    same-length-9
+    same-length-10
+    same-length-11
+    returns-4)

@@ -1,0 +1,91 @@
+-- `change::list_changes`: the confirmed changes, then the corners around them. Assumes nothing.
+use Prim.Native.Nat.{_≤_, _*_}
+use native.Mathlib.Omega.{arith}
+use mathlib.Core.Path.{_≡_, sym}
+use lib.ListN.{length, take}
+use lib.Seq.{length-take-le}
+use borrow.Author.Needs.{needs}
+use Rattle.grid.specs.Batches.{entries}
+use Rattle.grid.proofs.ApplyLaws.{corners-listed}
+use Rattle.visibility.proofs.change.list_changes.Statement.{statement}
+use Rattle.visibility.proofs.change.list_changes.Tie as tie
+
+-- the places: the start, the confirmed changes
+abbrev start : tie.After-confirm → tie.Start
+start p = p .before .before .before .before .before .before .before .before
+
+abbrev first : tie.After-slice-known6 → tie.After-confirm
+first p = p .before .before .before .before
+
+-- the changes that are handed on
+turned-long : (p : tie.After-slice-known6) → let f = first p .confirm in length (take (f .result) (f .last .1 .1 .0)) ≡ f .result
+turned-long p =
+    let f = first p .confirm in
+    let s = start (first p) in
+    let k : length (f .last .1 .1 .0) ≡ length (s .args .turned .now) = f .kept .1 .1 .0 in
+    length-take-le (f .result) (f .last .1 .1 .0) (omega (arith, f .ensures .3, s .pre .0, s .pre .1))
+
+confirm-requires : tie.Need-confirm-requires
+confirm-requires c κs = search needs
+
+slice-reshare-prefix-corner-changes : tie.Need-slice-reshare-prefix-corner-changes
+slice-reshare-prefix-corner-changes c = search needs
+
+slice-aggregate-corner-changes : tie.Need-slice-aggregate-corner-changes
+slice-aggregate-corner-changes c = sym (turned-long (c .before))
+
+corner-changes-requires : tie.Need-corner-changes-requires
+corner-changes-requires c κs = search needs
+
+same-length : tie.Need-same-length
+same-length c = search needs
+
+same-length-2 : tie.Need-same-length-2
+same-length-2 c = search needs
+
+same-length-3 : tie.Need-same-length-3
+same-length-3 c = search needs
+
+same-length-4 : tie.Need-same-length-4
+same-length-4 c = search needs
+
+returns : tie.Need-returns
+returns c =
+    let q = c .before .before .before .before in
+    let p = q .before .before .before .before in
+    let s = start (first p) in
+    let a = s .args in
+    let l = entries (a .batch .now) in
+    let f = first p .confirm in
+    let k = q .corner-changes in
+    let few : length l ≤ 256 = s .pre .0 in
+    let e : length (a .turned .now) ≡ 256 = s .pre .1 in
+    let g : length (a .says .now) ≡ 256 = s .pre .2 in
+    let h : length (a .corners .now) ≡ 2304 = s .pre .3 in
+    let i : length (a .bits .now) ≡ 2304 = s .pre .4 in
+    let n : f .result ≤ length l = f .ensures .3 in
+    let m : k .result ≤ 9 * length (take (f .result) (f .last .1 .1 .0)) = k .ensures .3 in
+    let t = turned-long p in (
+      omega (arith, n, few),
+      omega (arith, m, t, n, few),
+      λ asc o b.
+          let w = f .ensures .0 asc o b (omega (arith, few, e)) (omega (arith, few, g)) in (
+            w,
+            corners-listed l (a .cells .now) (a .turned .now) (f .last .1 .1 .0) (a .says .now) (f .last .1 .1 .1 .0) (f .result) asc o b few w
+                (a .corners .now) (k .last .1 .1 .0) (a .bits .now) (k .last .1 .1 .1 .0) (k .result) (omega (arith, h)) (omega (arith, i)) (k .ensures .0),
+          ),
+    )
+
+pub list-changes-spec : {M : Type 1} → statement M
+list-changes-spec =
+    tie.close
+    (tie.spec
+    confirm-requires
+    slice-reshare-prefix-corner-changes
+    slice-aggregate-corner-changes
+    corner-changes-requires
+    same-length
+    same-length-2
+    same-length-3
+    same-length-4
+    returns)

@@ -1,0 +1,231 @@
+-- `radius::change_radius`: the refusal that is due, or the layer built afresh for the radius. Assumes nothing.
+use Prim.Native.Nat.{_≤_}
+use native.Mathlib.Omega.{arith}
+use mathlib.Core.Path.{_≡_, refl, sym, _∙_}
+use lib.ListN.{length, take}
+use lib.Seq.{length-take-le}
+use borrow.Author.Needs.{needs}
+use Rattle.model.specs.Refusal.{short}
+use Rattle.visibility.specs.Holds.{Tables}
+use Rattle.visibility.specs.Holds as tables
+use Rattle.visibility.specs.Radius.{refuseRadius}
+use Rattle.visibility.proofs.RebuildLaws.{rebuild-cells, rebuild-done, rebuild-input, rebuild-packed, rebuild-room}
+use Rattle.visibility.proofs.radius.change_radius.Statement.{statement}
+use Rattle.visibility.proofs.radius.change_radius.Tie as tie
+
+-- the places: the start; where nothing is refused; the corners; the points
+abbrev start : tie.After-judge → tie.Start
+start p = p .before .before .before .before .before .before .before
+
+abbrev entry : tie.After-corner-cells → tie.Else1
+entry p = p .before .before .before .before
+
+abbrev cornered : tie.After-mark-points → tie.After-corner-cells
+cornered p = p .before .before .before .before .before .before .before .before .before .before
+
+abbrev shifted : tie.After-mark-points → tie.After-shift-of
+shifted p = p .before .before .before .before .before .before .before
+
+abbrev marked : tie.After-reach-of → tie.After-mark-points
+marked p = p .before .before .before .before
+
+-- the tables as they are lent, and what the tests say of them
+abbrev lent : tie.Start → Tables
+lent s = let a = s .args in record { cells = a .cells .now; points = a .points .now; statuses = a .statuses .now; blockers = a .blockers .now; pairs = a .pairs .now }
+
+number : (p : tie.After-judge) → let s = start p in p .judge .result ≡ refuseRadius (short (tables.needs (lent s))) (s .args .map) (s .args .radius)
+number p = rw (← p .before .short-tables .ensures) (p .judge .ensures)
+
+passes : (p : tie.Else1) → let s = start (p .before) in refuseRadius (short (tables.needs (lent s))) (s .args .map) (s .args .radius) ≡ 0
+passes p = sym (number (p .before)) ∙ p .if1 .left
+
+few : (p : tie.Else1) → start (p .before) .args .map .cells ≤ 1024
+few p = let s = start (p .before) in rebuild-cells (s .args .map) (s .args .radius) (lent s) (passes p)
+
+-- the used cells, and the corners found among them
+used : (p : tie.Else1) → let a = start (p .before) .args in length (take (a .map .cells) (a .cells .now)) ≡ a .map .cells
+used p =
+    let s = start (p .before) in
+    let r = rebuild-room (s .args .map) (s .args .radius) (lent s) (passes p) .0 in
+    length-take-le (s .args .map .cells) (s .args .cells .now) (omega (arith, few p, r))
+
+found : (p : tie.After-corner-cells) → p .corner-cells .result ≤ 1024
+found p = let q = entry p in omega (arith, p .corner-cells .ensures .3, used q, few q)
+
+inCorners : (p : tie.After-corner-cells) → p .corner-cells .result ≤ length (p .corner-cells .last .1 .0)
+inCorners p = let e : length (p .corner-cells .last .1 .0) ≡ 1024 = p .corner-cells .kept .1 .0 in omega (arith, found p, e)
+
+inBits : (p : tie.After-corner-cells) → p .corner-cells .result ≤ length (p .corner-cells .last .1 .1 .0)
+inBits p = let e : length (p .corner-cells .last .1 .1 .0) ≡ 1024 = p .corner-cells .kept .1 .1 .0 in omega (arith, found p, e)
+
+short-tables-requires : tie.Need-short-tables-requires
+short-tables-requires c κs = search needs
+
+judge-requires : tie.Need-judge-requires
+judge-requires c κs = search needs
+
+refused-requires : tie.Need-refused-requires
+refused-requires c κs = search needs
+
+returns : tie.Need-returns
+returns c =
+    let p = c .before .before in
+    let s = start p in
+    rebuild-input (s .args .map) (s .args .radius) (lent s) (p .judge .result) (c .refused .result) (number p) (c .before .if1 .taken) (c .refused .ensures)
+
+slice-aggregate-corner-cells : tie.Need-slice-aggregate-corner-cells
+slice-aggregate-corner-cells c = sym (used (c .before))
+
+slice-aggregate-corner-cells-2 : tie.Need-slice-aggregate-corner-cells-2
+slice-aggregate-corner-cells-2 c = search needs
+
+slice-aggregate-corner-cells-3 : tie.Need-slice-aggregate-corner-cells-3
+slice-aggregate-corner-cells-3 c = search needs
+
+corner-cells-requires : tie.Need-corner-cells-requires
+corner-cells-requires c κs = search needs
+
+shift-of-requires : tie.Need-shift-of-requires
+shift-of-requires c κs = search needs
+
+slice-reshare-prefix-mark-points : tie.Need-slice-reshare-prefix-mark-points
+slice-reshare-prefix-mark-points c = search needs
+
+slice-aggregate-mark-points : tie.Need-slice-aggregate-mark-points
+slice-aggregate-mark-points c = search needs
+
+slice-reshare-prefix-mark-points-2 : tie.Need-slice-reshare-prefix-mark-points-2
+slice-reshare-prefix-mark-points-2 c = search needs
+
+slice-aggregate-mark-points-2 : tie.Need-slice-aggregate-mark-points-2
+slice-aggregate-mark-points-2 c = search needs
+
+array-share-prefix-corners : tie.Need-array-share-prefix-corners
+array-share-prefix-corners c = inCorners (c .before .before .before .before .before)
+
+slice-aggregate-mark-points-3 : tie.Need-slice-aggregate-mark-points-3
+slice-aggregate-mark-points-3 c = let p = c .before .before .before .before .before .before in sym (length-take-le (p .corner-cells .result) (p .corner-cells .last .1 .0) (inCorners p))
+
+array-share-prefix-bits : tie.Need-array-share-prefix-bits
+array-share-prefix-bits c = inBits (c .before .before .before .before .before .before)
+
+slice-aggregate-mark-points-4 : tie.Need-slice-aggregate-mark-points-4
+slice-aggregate-mark-points-4 c = let p = c .before .before .before .before .before .before .before in sym (length-take-le (p .corner-cells .result) (p .corner-cells .last .1 .1 .0) (inBits p))
+
+slice-aggregate-mark-points-5 : tie.Need-slice-aggregate-mark-points-5
+slice-aggregate-mark-points-5 c = search needs
+
+slice-aggregate-mark-points-6 : tie.Need-slice-aggregate-mark-points-6
+slice-aggregate-mark-points-6 c = search needs
+
+mark-points-requires : tie.Need-mark-points-requires
+mark-points-requires c κs = search needs
+
+refused-requires-2 : tie.Need-refused-requires-2
+refused-requires-2 c κs = search needs
+
+same-length : tie.Need-same-length
+same-length c = search needs
+
+same-length-2 : tie.Need-same-length-2
+same-length-2 c = search needs
+
+returns-2 : tie.Need-returns-2
+returns-2 c =
+    let m = c .before .before .before .before in
+    let k = cornered m in
+    let s = start (entry k .before) in
+    rebuild-packed (s .args .map) (s .args .radius) (lent s) (passes (entry k)) (k .corner-cells .ensures .0) (shifted m .shift-of .ensures) (m .mark-points .ensures) (c .refused2 .result) (c .before .if2 .taken) (c .refused2 .ensures)
+
+reach-of-requires : tie.Need-reach-of-requires
+reach-of-requires c κs = search needs
+
+slice-aggregate-redraw : tie.Need-slice-aggregate-redraw
+slice-aggregate-redraw c = sym (used (entry (cornered (marked (c .before)))))
+
+array-share-prefix-corners-2 : tie.Need-array-share-prefix-corners-2
+array-share-prefix-corners-2 c = search needs
+
+slice-aggregate-redraw-2 : tie.Need-slice-aggregate-redraw-2
+slice-aggregate-redraw-2 c = search needs
+
+array-share-prefix-bits-2 : tie.Need-array-share-prefix-bits-2
+array-share-prefix-bits-2 c = search needs
+
+slice-aggregate-redraw-3 : tie.Need-slice-aggregate-redraw-3
+slice-aggregate-redraw-3 c = search needs
+
+slice-aggregate-redraw-4 : tie.Need-slice-aggregate-redraw-4
+slice-aggregate-redraw-4 c = search needs
+
+slice-aggregate-redraw-5 : tie.Need-slice-aggregate-redraw-5
+slice-aggregate-redraw-5 c = search needs
+
+redraw-requires : tie.Need-redraw-requires
+redraw-requires c κs = search needs
+
+same-length-3 : tie.Need-same-length-3
+same-length-3 c = search needs
+
+same-length-4 : tie.Need-same-length-4
+same-length-4 c = search needs
+
+same-length-5 : tie.Need-same-length-5
+same-length-5 c = search needs
+
+same-length-6 : tie.Need-same-length-6
+same-length-6 c = search needs
+
+returns-3 : tie.Need-returns-3
+returns-3 c =
+    let d = c .before .before .before .before .before .before .before .before in
+    let n = d .before .before .before .before .before .before .before .before .before .before in
+    let m = marked n in
+    let k = cornered m in
+    let s = start (entry k .before) in
+    let z = d .redraw .last .1 .1 .1 .1 .1 .1 .1 .1 .1 .1 in
+    rebuild-done (s .args .map) (s .args .radius) (lent s) (passes (entry k)) (k .corner-cells .ensures .0) (shifted m .shift-of .ensures) (m .mark-points .ensures)
+    (record { cells = s .args .cells .now; points = z .0; statuses = z .1 .0; blockers = z .1 .1 .0; pairs = z .1 .1 .1 .0 }) (n .reach-of .result) refl (n .before .if2 .left) (n .reach-of .ensures) (d .redraw .ensures)
+
+pub change-radius-spec : {M : Type 1} → statement M
+change-radius-spec =
+    tie.close
+    (tie.spec
+    short-tables-requires
+    judge-requires
+    refused-requires
+    returns
+    slice-aggregate-corner-cells
+    slice-aggregate-corner-cells-2
+    slice-aggregate-corner-cells-3
+    corner-cells-requires
+    shift-of-requires
+    slice-reshare-prefix-mark-points
+    slice-aggregate-mark-points
+    slice-reshare-prefix-mark-points-2
+    slice-aggregate-mark-points-2
+    array-share-prefix-corners
+    slice-aggregate-mark-points-3
+    array-share-prefix-bits
+    slice-aggregate-mark-points-4
+    slice-aggregate-mark-points-5
+    slice-aggregate-mark-points-6
+    mark-points-requires
+    refused-requires-2
+    same-length
+    same-length-2
+    returns-2
+    reach-of-requires
+    slice-aggregate-redraw
+    array-share-prefix-corners-2
+    slice-aggregate-redraw-2
+    array-share-prefix-bits-2
+    slice-aggregate-redraw-3
+    slice-aggregate-redraw-4
+    slice-aggregate-redraw-5
+    redraw-requires
+    same-length-3
+    same-length-4
+    same-length-5
+    same-length-6
+    returns-3)

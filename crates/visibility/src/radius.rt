@@ -1,0 +1,110 @@
+// A change of the radius: points and pairs are built afresh, over cells that stay.
+use crate::judge::bad_radius;
+use crate::judge::reach_of;
+use crate::judge::shift_of;
+use crate::judge::short_tables;
+use crate::layer::redraw;
+use crate::map::Map;
+use crate::map::Outcome;
+use crate::map::refused;
+use corner::cells::corner_cells;
+use grid::judge::bad_size;
+use marks::points::mark_points;
+ghost use mathlib.Core.Path.{_≡_};
+ghost use Rattle.visibility.specs.Radius.{Rebuilding, refuseRadius};
+
+// The refusals that the map handed in and the radius decide.
+fn judge(short: bool, map: Map, radius: f64) -> u8
+    ensures { λ r. ⌜ r ≡ refuseRadius short map radius ⌝ }
+{
+    if short {
+        return 9;
+    }
+    if bad_size(map.size) {
+        return 1;
+    }
+    if bad_radius(map.size, map.radius) {
+        return 2;
+    }
+    if bad_radius(map.size, radius) {
+        return 2;
+    }
+    if 1024 < map.cells {
+        return 6;
+    }
+    if 64 < map.points {
+        return 7;
+    }
+    0
+}
+
+// Setting the same radius is a change too: blockers are told afresh.
+pub fn change_radius(
+    map: Map,
+    cells: &[u64],
+    points: &mut [u64],
+    statuses: &mut [u8],
+    blockers: &mut [u64],
+    pairs: &mut [u64],
+    radius: f64,
+) -> Outcome
+    ensures { λ o. ⌜ Rebuilding map radius
+        (record { cells = now (cells .entry); points = now (points .entry); statuses = now (statuses .entry); blockers = now (blockers .entry); pairs = now (pairs .entry) })
+        (record { cells = now (cells .entry); points = now (points .exit); statuses = now (statuses .exit); blockers = now (blockers .exit); pairs = now (pairs .exit) }) o ⌝ }
+{
+    let short = short_tables(
+        cells.len(),
+        points.len(),
+        statuses.len(),
+        blockers.len(),
+        pairs.len(),
+    );
+    let number = judge(short, map, radius);
+    if number != 0 {
+        return refused(number);
+    }
+    let n = map.cells;
+    let mut corners = [0u64; 1024];
+    let mut bits = [0u8; 1024];
+    let found = corner_cells(&cells[..n], &mut corners[..], &mut bits[..]);
+    let mut keys = [0u64; 64];
+    let mut moods = [0u64; 64];
+    let shift = shift_of(map.size, radius);
+    let m = mark_points(
+        shift,
+        &points[..0],
+        &statuses[..0],
+        &corners[..found],
+        &bits[..found],
+        &mut keys[..],
+        &mut moods[..],
+    );
+    if 64 < m {
+        return refused(7);
+    }
+    redraw(
+        map.size,
+        radius,
+        reach_of(shift),
+        &cells[..n],
+        &corners[..0],
+        &bits[..0],
+        &keys[..],
+        &moods[..],
+        m,
+        0,
+        points,
+        statuses,
+        blockers,
+        pairs,
+    );
+    Outcome {
+        refusal: 0,
+        map: Map {
+            size: map.size,
+            radius,
+            cells: n,
+            points: m,
+        },
+    }
+}
