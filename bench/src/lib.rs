@@ -2,6 +2,8 @@
 use oracle::question::{Entry, Floor, Question};
 use oracle::stand_ins::Point;
 
+pub mod map;
+
 unsafe extern "C" {
     pub safe fn runcedau_root(x: f64) -> f64;
     pub safe fn runcedau_root_threshold(x: f64) -> f64;

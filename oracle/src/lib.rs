@@ -22,6 +22,11 @@ impl Default for Random {
 }
 
 impl Random {
+    /// Other numbers for every other seed.
+    pub fn seeded(seed: u64) -> Self {
+        Random(seed.wrapping_mul(0x9e37_79b9_7f4a_7c15) | 1)
+    }
+
     pub fn next(&mut self) -> u64 {
         self.0 ^= self.0 << 13;
         self.0 ^= self.0 >> 7;

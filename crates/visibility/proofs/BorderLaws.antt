@@ -1,5 +1,5 @@
 -- The corners of an update: 64 cells further in every direction are keys too; and how many there are. Assumes nothing.
-use Prim.Native.Nat.{ℕ, suc, _+_, _*_, _≤_, zero-le}
+use Prim.Native.Nat.{ℕ, suc, _*_, _≤_, zero-le}
 use native.Mathlib.Omega.{arith}
 use mathlib.Core.Path.{_≡_, refl}
 use mathlib.Core.Bool.{Bool, true, false, cond, _||_}

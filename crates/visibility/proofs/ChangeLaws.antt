@@ -18,13 +18,15 @@ use Rattle.model.specs.Batch.{cellsAfter}
 use Rattle.model.specs.Limits.{maxBatch, maxCells, maxPoints}
 use Rattle.model.specs.Map as model
 use Rattle.model.specs.Maps.{AscL}
-use Rattle.model.specs.Refusal.{badRadius, badSize, judge, outside, short, unsorted}
+use Rattle.model.specs.Refusal.{badRadius, judge, outside, short, unsorted}
 use Rattle.visibility.specs.Change.{Changing, Lent, lentNeeds, refuseBatch, refusedWith}
 use Rattle.visibility.specs.Holds.{Holds}
 use Rattle.visibility.specs.Update.{Updated, Updating, pointsAfter}
 use Rattle.visibility.specs.declared.change.Changed.{Changed}
 use Rattle.visibility.specs.declared.map.Map.{Map}
-use Rattle.visibility.proofs.RefuseLaws.{in-turn}
+use Rattle.visibility.proofs.AcceptedLaws.{next-cells}
+use Rattle.visibility.proofs.LayerLaws.{layer-few}
+use Rattle.visibility.proofs.RefuseLaws.{in-turn, ofInput, turn-some}
 
 -- ---- 9: two lists of lengths, one after the other
 short-append : (k l : List (ℕ × ℕ)) → short (k ++ l) ≡ short k || short l
@@ -39,25 +41,11 @@ short-either k l x y s p q w = ⊎-elim (λ z. z .1 ∙ sym (known true (z .0) �
     known b z = ap (λ (a : Bool). short k || a) (sym q ∙ z)
 
 -- ---- what is due
-abbrev inTurn : Bool → Bool → Bool → Bool → Bool → Bool → Bool → Bool → ℕ
-inTurn s c r n d o w p = cond s 9 (cond c 1 (cond r 2 (cond n 3 (cond d 4 (cond o 5 (cond w 6 (cond p 7 0)))))))
-
 -- a refusal that is due before cells and points are counted is due whatever they come to
-turn-early : (s c r n d o w p : Bool) → (inTurn s c r n d o false false ≡ 0 → ⊥) → inTurn s c r n d o w p ≡ inTurn s c r n d o false false
-turn-early true c r n d o w p h = refl
-turn-early false true r n d o w p h = refl
-turn-early false false true n d o w p h = refl
-turn-early false false false true d o w p h = refl
-turn-early false false false false true o w p h = refl
-turn-early false false false false false true w p h = refl
-turn-early false false false false false false w p h = absurd (h refl)
-
 due-early : (s : Bool) (m : Map) (l : List model.Entry) (w p : Bool) → (refuseBatch s m l false false ≡ 0 → ⊥) → refuseBatch s m l w p ≡ refuseBatch s m l false false
 due-early s m l w p h =
     let none = in-turn s m l false false in
-    in-turn s m l w p
-    ∙ turn-early s (badSize (m .size)) (badRadius (m .size) (m .radius)) (ltb maxBatch (length l)) (unsorted l) (outside l) w p (λ z. h (none ∙ z))
-    ∙ sym none
+    in-turn s m l w p ∙ sym (turn-some (ofInput s m l) (cond w 6 (cond p 7 0)) (λ z. h (none ∙ z))) ∙ sym none
 
 -- what is not refused by the input alone: nothing is due but 6 and, after it, 7
 pub record Passed (s : Bool) (m : Map) (l : List model.Entry) : Type 0 where
@@ -85,17 +73,10 @@ batch-passed s m l e =
 
 -- ---- the model's judgement, where the tables hold its map
 module _ (m : Map) (t : Lent) (M : model.Map) (l : List model.Entry) (h : Holds m (t .tables) M) where
-  next-cells : model.next (model.batch l) M .cells ≡ cellsAfter (model.toBatch l) (M .cells)
-  unfolding model.next model.changed
-  next-cells = refl
-
   judged : judge (lentNeeds t) (model.batch l) M (model.next (model.batch l) M)
       ≡ refuseBatch (short (lentNeeds t)) m l (ltb maxCells (length (cellsAfter (model.toBatch l) (M .cells)))) (ltb maxPoints (pointsAfter M l))
   unfolding judge refuseBatch
-  judged = rw (h .size, h .radius, le-ltb maxCells (length (M .cells)) (h .cells .room), le-ltb maxPoints (length (M .layer .points)) (h .layer .room), next-cells) refl
-
-  few-points : m .points ≤ maxPoints
-  few-points = subst (λ (n : ℕ). n ≤ maxPoints) (sym (h .layer .count)) (h .layer .room)
+  judged = rw (h .size, h .radius, le-ltb maxCells (length (M .cells)) (h .cells .room), le-ltb maxPoints (length (M .layer .points)) (h .layer .room), next-cells M l) refl
 
 -- ---- the call
 module _ (m : Map) (b : List ℤ) (t t′ : Lent) (r : Changed) where
@@ -123,7 +104,7 @@ module _ (m : Map) (b : List ℤ) (t t′ : Lent) (r : Changed) where
   refuses n some f w first due = record {
     input = λ k z. f ∙ ap refusedWith (first k z);
     packed = λ C h g. number n f ∙ due C h true (λ y. refl);
-    refusal = λ M h. number n f ∙ due (M .cells) (h .cells) (ltb maxPoints (pointsAfter M l)) (λ g. absurd (let k = few-points m t M l h in omega arith)) ∙ sym (judged m t M l h);
+    refusal = λ M h. number n f ∙ due (M .cells) (h .cells) (ltb maxPoints (pointsAfter M l)) (λ g. absurd (let k = layer-few (h .layer) in omega arith)) ∙ sym (judged m t M l h);
     refused = λ k z. (w, f ∙ ap refusedWith (sym (number n f) ∙ z));
     done = λ M h z. absurd (some (sym (number n f) ∙ z));
   }

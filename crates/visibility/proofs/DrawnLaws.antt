@@ -1,41 +1,41 @@
 -- A layer's tables drawn anew hold the layer afterwards, and what stands behind their needs is untouched. Assumes nothing.
 use Prim.Native.Nat.{ℕ, _≤_}
-use mathlib.Core.Path.{_≡_, sym, ap, _∙_}
+use mathlib.Core.Path.{_≡_, ap, _∙_}
 use mathlib.Core.List.{List, _++_}
 use mathlib.Core.Option.{Option}
 use lib.ListN.{drop, length}
-use lib.Seq.{drop-at}
+use lib.Ieee.{Float}
 use Rattle.marks.specs.Marked.{statusesOf}
 use Rattle.marks.proofs.BeginLaws.{statuses-length}
 use Rattle.model.specs.Batch.{Batch}
+use Rattle.model.specs.Cell.{reach}
 use Rattle.model.specs.ClosedForm.{Closed}
 use Rattle.model.specs.Corner.{anyBit}
 use Rattle.model.specs.Good.{bitsIn}
 use Rattle.model.specs.Layer.{Layer, Mark, Tests}
 use Rattle.model.specs.Limits.{maxCells, maxPoints}
+use Rattle.model.specs.Map as model
 use Rattle.model.specs.Maps.{Asc, get, isSome, keys}
-use Rattle.sight.specs.Blocked.{codes}
+use Rattle.sight.specs.Blocked.{Stood, codes}
 use Rattle.sight.specs.Codes.{pairCode}
 use Rattle.sight.specs.Paired.{pairAt, pairPlaces}
-use Rattle.sight.proofs.PointLaws.{codes-length}
 use Rattle.table.specs.Tables.{pad}
 use Rattle.table.proofs.ListedLaws.{keys-length}
-use Rattle.table.proofs.TableLaws.{pad-length}
 use Rattle.visibility.specs.Holds.{Behind, Tables}
 use Rattle.visibility.specs.Layers.{HoldsLayer, blocksOf, edgeAt, stoodOf}
-use Rattle.visibility.specs.Redraw.{Redrawn}
+use Rattle.visibility.specs.Redraw.{Drawing, Redrawn}
 use Rattle.visibility.proofs.BlockLaws.{blocks-are}
-use Rattle.visibility.proofs.LayerLaws.{blocks-length}
+use Rattle.visibility.proofs.LayerLaws.{codes-count}
+use Rattle.visibility.proofs.PadLaws.{written-rest, written-whole}
 use Rattle.visibility.proofs.PairLaws.{pairs-are}
 use Rattle.visibility.proofs.StoodLaws.{stood-keys, stood-statuses}
 
--- ---- a table of which the first places are written anew: with l, and zeros behind it
-module _ (l d u : List ℕ) (few : length l ≤ maxPoints) (e : u ≡ pad maxPoints l ++ d) where
-  drawn-rest : drop maxPoints u ≡ d
-  drawn-rest = ap (drop maxPoints) e ∙ drop-at (pad maxPoints l) d maxPoints (pad-length maxPoints l few)
-
-  drawn-whole : u ≡ pad maxPoints l ++ drop maxPoints u
-  drawn-whole = e ∙ ap (λ (z : List ℕ). pad maxPoints l ++ z) (sym drawn-rest)
+-- what `redraw` promises, of the cells C
+abbrev pub Redraws : Float → Float → ℕ → List ℕ → List ℕ → List ℕ → List ℕ → List ℕ → ℕ → ℕ → Tables → Tables → Type 0
+Redraws size radius near C turned says ks moods n count t t′ =
+    (ch : Batch) (S : Stood) (B : List (Option ℕ)) (P : ℕ → ℕ → Option (Option ℕ)) → near ≡ reach (model.shiftOf size radius)
+    → Drawing C ch S B P turned says ks moods (t .points) (t .statuses) (t .blockers) (t .pairs) n count
+    → Redrawn (model.tests size radius) C ch S B P (t .points) (t′ .points) (t .statuses) (t′ .statuses) (t .blockers) (t′ .blockers) (t .pairs) (t′ .pairs)
 
 -- ---- the tables u drawn anew as u′, from the old pairs P
 module _ {t : Tests} {C : List ℕ} {ch : Batch} {ms : List Mark} {l l′ : Layer} (cl : Closed t C ch ms l l′) (order : Asc 0 (l .points))
@@ -48,7 +48,7 @@ module _ {t : Tests} {C : List ℕ} {ch : Batch} {ms : List Mark} {l l′ : Laye
   few-statuses = rw (statuses-length (l′ .points)) few
 
   few-blocks : length (codes (blocksOf (l′ .points))) ≤ maxPoints
-  few-blocks = rw (codes-length (blocksOf (l′ .points)), blocks-length (l′ .points)) few
+  few-blocks = rw (codes-count (l′ .points)) few
 
   new-keys : u′ .points ≡ pad maxPoints (keys (l′ .points)) ++ drop maxPoints (u .points)
   new-keys = d .keysAre ∙ ap (λ (z : List ℕ). pad maxPoints z ++ drop maxPoints (u .points)) (stood-keys ms (l .points) (l′ .points))
@@ -65,9 +65,9 @@ module _ {t : Tests} {C : List ℕ} {ch : Batch} {ms : List Mark} {l l′ : Laye
       record {
         count = e;
         room = few;
-        keysAre = drawn-whole (keys (l′ .points)) (drop maxPoints (u .points)) (u′ .points) few-keys new-keys;
-        statusesAre = drawn-whole (statusesOf (l′ .points)) (drop maxPoints (u .statuses)) (u′ .statuses) few-statuses new-statuses;
-        blocksAre = drawn-whole (codes (blocksOf (l′ .points))) (drop maxPoints (u .blockers)) (u′ .blockers) few-blocks new-blocks;
+        keysAre = written-whole maxPoints (keys (l′ .points)) (drop maxPoints (u .points)) (u′ .points) few-keys new-keys;
+        statusesAre = written-whole maxPoints (statusesOf (l′ .points)) (drop maxPoints (u .statuses)) (u′ .statuses) few-statuses new-statuses;
+        blocksAre = written-whole maxPoints (codes (blocksOf (l′ .points))) (drop maxPoints (u .blockers)) (u′ .blockers) few-blocks new-blocks;
         pairsRoom = rw (d .pairsLong) room;
         pairsAre = λ i j a b. d .pairsAre i j a b ∙ ap pairCode (same i j ∙ pairs-are cl order real i j);
       }
@@ -76,9 +76,9 @@ module _ {t : Tests} {C : List ℕ} {ch : Batch} {ms : List Mark} {l l′ : Laye
   drawn-behind cells =
       record {
         cells = cells;
-        points = drawn-rest (keys (l′ .points)) (drop maxPoints (u .points)) (u′ .points) few-keys new-keys;
-        statuses = drawn-rest (statusesOf (l′ .points)) (drop maxPoints (u .statuses)) (u′ .statuses) few-statuses new-statuses;
-        blockers = drawn-rest (codes (blocksOf (l′ .points))) (drop maxPoints (u .blockers)) (u′ .blockers) few-blocks new-blocks;
+        points = written-rest maxPoints (keys (l′ .points)) (drop maxPoints (u .points)) (u′ .points) few-keys new-keys;
+        statuses = written-rest maxPoints (statusesOf (l′ .points)) (drop maxPoints (u .statuses)) (u′ .statuses) few-statuses new-statuses;
+        blockers = written-rest maxPoints (codes (blocksOf (l′ .points))) (drop maxPoints (u .blockers)) (u′ .blockers) few-blocks new-blocks;
         pairs = d .pairsBehind;
         pairsLong = d .pairsLong;
       }

@@ -1,4 +1,5 @@
 -- The laws of crate `visibility`.
+pub mod AcceptedLaws
 pub mod BlockLaws
 pub mod BorderLaws
 pub mod ChangeLaws
@@ -9,6 +10,7 @@ pub mod LayerLaws
 pub mod MarkLaws
 pub mod NamedLaws
 pub mod OpenLaws
+pub mod PadLaws
 pub mod PairLaws
 pub mod PlaceLaws
 pub mod RadiusLaws

@@ -1,18 +1,15 @@
--- The blockers of a good layer, and of an empty one, are keys that are no other code. Assumes nothing.
-use Prim.Native.Nat.{ℕ, _≤_, zero-le}
+-- The blockers of a good layer are keys that are no other code. Assumes nothing.
+use Prim.Native.Nat.{ℕ, _≤_}
 use native.Mathlib.Omega.{arith}
 use mathlib.Core.Path.{_≡_, refl}
 use mathlib.Core.Bool.{Bool, true, false, cond, _&&_}
 use mathlib.Core.List.{List, [], _∷_}
 use mathlib.Core.Option.{Option, none, some}
 use lib.Dec.{T, ltb}
-use lib.Ieee.{Float}
 use lib.ListN.{getD, length}
-use borrow.Author.Tests.{le-ltb}
 use Rattle.model.specs.Good.{Good, Inside}
 use Rattle.model.specs.Layer.{Layer, Points, edge}
 use Rattle.model.specs.Limits.{maxCoordinate}
-use Rattle.model.specs.Map.{emptyLayer}
 use Rattle.model.specs.Maps.{has, keys}
 use Rattle.model.proofs.OrderLaws.{Within, asc-within}
 use Rattle.sight.specs.Blocked.{AllNamed}
@@ -49,10 +46,3 @@ module _ {s : ℕ} {C : List ℕ} {l : Layer} (g : Good s C l) where
       go true none e = tt
       go true (some o) e = occupied-named o (λ b x. g .edgeBlock p q b (rw x at e))
       go false o e = tt
-
-pub empty-blocks-named : (r : Float) → AllNamed (blocksOf (emptyLayer r .points))
-empty-blocks-named r = tt
-
-pub empty-pairs-named : (r : Float) → PairsNamed (edgeAt (emptyLayer r))
-unfolding edgeAt
-empty-pairs-named r i j = rw (le-ltb i 0 zero-le) tt

@@ -7,9 +7,10 @@ use mathlib.Core.List.{List, [], _∷_, _++_}
 use lib.Dec.{ltb}
 use lib.Ieee.{Float}
 use lib.ListN.{List·getD-append, drop, getD, getD-replicate, length, length-append, length-drop, length-replicate, replicate, take}
-use lib.Seq.{drop-append-seam, length-take-le}
+use lib.Seq.{drop-at, length-take-le}
 use borrow.Author.Tests.{le-ltb, ltb-false}
 use Rattle.grid.proofs.FloorLaws.{holds-none}
+use Rattle.grid.proofs.RefuseLaws.{apart}
 use Rattle.model.proofs.RunLaws.{Sound, open-sound}
 use Rattle.model.specs.Limits.{maxCells, maxPoints}
 use Rattle.model.specs.Map.{emptyLayer, fresh}
@@ -61,16 +62,16 @@ open-refused c r t n o e h =
     record {
       refusal = number ∙ h;
       refused = λ k z. (refl, e ∙ ap refusedWith (sym number ∙ z));
-      answer = λ z. absurd (apart z);
-      holds = λ z. absurd (apart z);
-      behind = λ z. absurd (apart z);
+      answer = λ z. absurd (never z);
+      holds = λ z. absurd (never z);
+      behind = λ z. absurd (never z);
     }
   where
     number : o .refusal ≡ suc n
     number = ap (λ (w : Outcome). w .refusal) e
 
-    apart : o .refusal ≡ 0 → ⊥
-    apart z = let k : suc n ≡ 0 = sym number ∙ z in omega arith
+    never : o .refusal ≡ 0 → ⊥
+    never z = apart (sym number ∙ z)
 
 -- ---- a table cleared up to its need
 abbrev cleared : ℕ → List ℕ → List ℕ
@@ -80,9 +81,7 @@ cleared-is : (n : ℕ) (t u : List ℕ) → n ≤ length t → u ≡ replicate (
 cleared-is n t u h e = rw (e, length-take-le n t h) refl
 
 cleared-behind : (n : ℕ) (t : List ℕ) → drop n (cleared n t) ≡ drop n t
-cleared-behind n t =
-    let z : List ℕ = replicate n 0 in
-    ap (λ (k : ℕ). drop k (cleared n t)) (sym (length-replicate {A = ℕ} n 0)) ∙ drop-append-seam z (drop n t)
+cleared-behind n t = drop-at (replicate n 0) (drop n t) n (length-replicate {A = ℕ} n 0)
 
 cleared-length : (n : ℕ) (t : List ℕ) → n ≤ length t → length (cleared n t) ≡ length t
 cleared-length n t h = simp (length-append, length-replicate, length-drop) (omega arith)
@@ -137,7 +136,7 @@ module _ (c r : Float) (t : Tables) (e : short (needs t) ≡ false) (f : badSize
   all-cleared =
       record {
         refusal = open-passes (needs t) c r e f g;
-        refused = λ n z. absurd (apart n z);
+        refused = λ n z. absurd (apart (sym z));
         answer = λ z. refl;
         holds = λ z. record {
           size = refl;
@@ -156,9 +155,6 @@ module _ (c r : Float) (t : Tables) (e : short (needs t) ≡ false) (f : badSize
         };
       }
     where
-      apart : (n : ℕ) → 0 ≡ suc n → ⊥
-      apart n z = omega arith
-
       room : pairPlaces ≤ length (t .pairs)
       room = long-enough (needs t) e .1 .1 .1 .1 .0
 

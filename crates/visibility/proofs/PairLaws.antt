@@ -21,9 +21,9 @@ use Rattle.model.specs.Layer.{Layer, Mark, Points, Tests, edge, edgeRun}
 use Rattle.model.specs.Maps.{Asc, AscL, get, has, isSome, keys}
 use Rattle.model.proofs.MapLaws.{T→true}
 use Rattle.model.proofs.OrderLaws.{asc-keys}
-use Rattle.model.proofs.SingleLaws.{length-keys}
 use Rattle.sight.specs.Paired.{oldPair, pairAt, pairBetween, pairStart, pointAt}
 use Rattle.table.specs.Tables.{rank}
+use Rattle.table.proofs.ListedLaws.{keys-length}
 use Rattle.visibility.specs.Layers.{edgeAt, stoodOf}
 use Rattle.visibility.proofs.PlaceLaws.{place-back, place-has, place-lt, place-some, rank-at, rank-inside}
 use Rattle.visibility.proofs.StoodLaws.{after-has, left, left-old, left-want, stays-has, stood-length}
@@ -41,7 +41,7 @@ pub edge-at : (l : Layer) → Asc 0 (l .points) → (p q : ℕ) → has p (keys 
 unfolding edgeAt
 edge-at l order p q hp hq =
     let a : AscL 0 (keys (l .points)) = asc-keys 0 (l .points) order in
-    let n = length-keys (l .points) in
+    let n = keys-length (l .points) in
     let ip = rank-inside p (keys (l .points)) a hp in
     let iq = rank-inside q (keys (l .points)) a hq in
     rw (
@@ -127,7 +127,7 @@ module _ {t : Tests} {C : List ℕ} {ch : Batch} {ms : List Mark} {l l′ : Laye
       (place-has (keys (l′ .points)) j (inside j b))
     where
       inside : (k : ℕ) → k < n → k < length (keys (l′ .points))
-      inside k u = rw (length-keys (l′ .points)) u
+      inside k u = rw (keys-length (l′ .points)) u
 
       first : at i ≡ (key i, left ms (l .points) (key i))
       first = stood-at ms (l .points) (l′ .points) i (omega arith)

@@ -12,6 +12,7 @@ use borrow.Author.Tests.{le-ltb, lt-ltb, ltb-false}
 use Rattle.corner.specs.Changes.{Inner, numbered}
 use Rattle.grid.proofs.ApplyLaws.{inside-inner}
 use Rattle.grid.proofs.FloorLaws.{holds-cells}
+use Rattle.grid.proofs.RefuseLaws.{apart}
 use Rattle.marks.specs.Marked.{Marking}
 use Rattle.marks.specs.Standing.{Standing}
 use Rattle.model.specs.Batch.{Batch}
@@ -42,11 +43,12 @@ use Rattle.visibility.specs.Redraw.{Drawing, Redrawn}
 use Rattle.visibility.specs.declared.map.Map.{Map}
 use Rattle.visibility.specs.declared.map.Outcome.{Outcome}
 use Rattle.visibility.proofs.BorderLaws.{corners-bordered, corners-length}
-use Rattle.visibility.proofs.DrawnLaws.{drawn-behind, drawn-holds}
+use Rattle.visibility.proofs.DrawnLaws.{Redraws, drawn-behind, drawn-holds}
+use Rattle.visibility.proofs.LayerLaws.{layer-few}
 use Rattle.visibility.proofs.MarkLaws.{Marks, marked-count, marked-few, marked-keys, marked-many, marked-words, numbered-keys}
 use Rattle.visibility.proofs.NamedLaws.{pairs-named}
 use Rattle.visibility.proofs.OpenLaws.{Enough, long-enough}
-use Rattle.visibility.proofs.RefuseLaws.{radius-turn}
+use Rattle.visibility.proofs.RefuseLaws.{inTurn, radius-turn, turn-none, turn-some}
 use Rattle.visibility.proofs.StoodLaws.{fitting, left-few, marking, stood-keys, stood-length}
 
 -- ---- the refusals in turn
@@ -106,52 +108,29 @@ module _ (t : Tests) (C : List ℕ) (ch : Batch) (P Q : ℕ → ℕ → Option (
 
 -- ---- what the input alone decides, and what the model says of a map that is held
 module _ (m : Map) (r : Float) (t : Tables) where
-  abbrev firstly : ℕ → ℕ
-  firstly n = cond (short (needs t)) 9 (cond (badSize (m .size)) 1 (cond (badRadius (m .size) (m .radius) || badRadius (m .size) r) 2 n))
-
-  firstly-some : (n : ℕ) → (firstly 0 ≡ 0 → ⊥) → firstly 0 ≡ firstly n
-  firstly-some n f = go (short (needs t)) (badSize (m .size)) (badRadius (m .size) (m .radius) || badRadius (m .size) r) f
-    where
-      go : (x y z : Bool) → (_≡_ {A = ℕ} (cond x 9 (cond y 1 (cond z 2 0))) 0 → ⊥) → _≡_ {A = ℕ} (cond x 9 (cond y 1 (cond z 2 0))) (cond x 9 (cond y 1 (cond z 2 n)))
-      go true y z f = refl
-      go false true z f = refl
-      go false false true f = refl
-      go false false false f = absurd (f refl)
-
-  firstly-none : (n : ℕ) → firstly 0 ≡ 0 → n ≡ firstly n
-  firstly-none n e = go (short (needs t)) (badSize (m .size)) (badRadius (m .size) (m .radius) || badRadius (m .size) r) e
-    where
-      apart : {k : ℕ} → suc k ≡ 0 → ⊥
-      apart e = omega arith
-
-      go : (x y z : Bool) → _≡_ {A = ℕ} (cond x 9 (cond y 1 (cond z 2 0))) 0 → n ≡ cond x 9 (cond y 1 (cond z 2 n))
-      go true y z e = absurd (apart e)
-      go false true z e = absurd (apart e)
-      go false false true e = absurd (apart e)
-      go false false false e = refl
+  abbrev before : List (ℕ × Bool)
+  before = (9, short (needs t)) ∷ (1, badSize (m .size)) ∷ (2, badRadius (m .size) (m .radius) || badRadius (m .size) r) ∷ []
 
   module _ {M : model.Map} (h : Holds m t M) where
     abbrev M′ : model.Map
     M′ = model.next (model.radius r) M
 
-    judged : judge (needs t) (model.radius r) M M′ ≡ firstly (cond (packed M′) 7 0)
+    judged : judge (needs t) (model.radius r) M M′ ≡ inTurn before (cond (packed M′) 7 0)
     unfolding judge verdict firstOf
     judged = rw (h .size, h .radius, le-ltb maxCells (length (M .cells)) (h .cells .room), le-ltb maxPoints (length (M .layer .points)) (h .layer .room)) refl
 
-    by-input : refuseRadius (short (needs t)) m r ≡ firstly 0
+    by-input : refuseRadius (short (needs t)) m r ≡ inTurn before 0
     by-input =
         let a : m .cells ≡ length (M .cells) = h .cells .count in
-        let b : m .points ≡ length (M .layer .points) = h .layer .count in
         let x : m .cells ≤ 1024 = omega (arith, a, h .cells .room) in
-        let y : m .points ≤ 64 = omega (arith, b, h .layer .room) in
-        radius-turn (short (needs t)) m r ∙ rw (le-ltb 1024 (m .cells) x, le-ltb 64 (m .points) y) refl
+        radius-turn (short (needs t)) m r ∙ rw (le-ltb 1024 (m .cells) x, le-ltb 64 (m .points) (layer-few (h .layer))) refl
 
     -- the input refuses, or nothing but the number of points afterwards may
     judged-input : (n : ℕ) → n ≡ refuseRadius (short (needs t)) m r → (n ≡ 0 → ⊥) → n ≡ judge (needs t) (model.radius r) M M′
-    judged-input n e f = e ∙ by-input ∙ firstly-some (cond (packed M′) 7 0) (λ z. f (e ∙ by-input ∙ z)) ∙ sym judged
+    judged-input n e f = e ∙ by-input ∙ turn-some before (cond (packed M′) 7 0) (λ z. f (e ∙ by-input ∙ z)) ∙ sym judged
 
     judged-points : refuseRadius (short (needs t)) m r ≡ 0 → (b : Bool) → packed M′ ≡ b → cond b 7 0 ≡ judge (needs t) (model.radius r) M M′
-    judged-points e b p = ap (λ (x : Bool). cond x 7 0) (sym p) ∙ firstly-none (cond (packed M′) 7 0) (sym by-input ∙ e) ∙ sym judged
+    judged-points e b p = ap (λ (x : Bool). cond x 7 0) (sym p) ∙ turn-none before (cond (packed M′) 7 0) (apart, (apart, (apart, tt))) (sym by-input ∙ e) ∙ sym judged
 
   -- a refused call leaves the tables as they were
   rebuild-refused : (n : ℕ) (o : Outcome) → (n ≡ 0 → ⊥) → o ≡ refusedWith n → ((k : ℕ) → refuseRadius (short (needs t)) m r ≡ suc k → n ≡ suc k)
@@ -173,16 +152,10 @@ module _ (m : Map) (r : Float) (t : Tables) where
   pub rebuild-input : (n : ℕ) (o : Outcome) → n ≡ refuseRadius (short (needs t)) m r → (n ≡ 0 → ⊥) → o ≡ refusedWith n → Rebuilding m r t t o
   rebuild-input n o e f q = rebuild-refused n o f q (λ k z. e ∙ z) (λ M h. judged-input h n e f)
 
--- ---- what the steps promise: the corners of the cells u; the tables t drawn anew as t′
+-- ---- what `corner_cells` promises, of the cells u
 abbrev pub Corners : List ℕ → List ℕ → List ℕ → List ℕ → List ℕ → ℕ → Type 0
 Corners u out out′ statuses statuses′ r =
     AscL 0 u → All Inner u → length u ≤ length out → length u ≤ length statuses → Listed (numbered (cornerCells u)) out out′ statuses statuses′ r
-
-abbrev pub Draws : Float → Float → ℕ → List ℕ → List ℕ → List ℕ → List ℕ → List ℕ → ℕ → ℕ → Tables → Tables → Type 0
-Draws size radius near u turned full ks moods n count t t′ =
-    (ch : Batch) (S : Stood) (B : List (Option ℕ)) (P : ℕ → ℕ → Option (Option ℕ)) → near ≡ reach (model.shiftOf size radius)
-    → Drawing u ch S B P turned full ks moods (t .points) (t .statuses) (t .blockers) (t .pairs) n count
-    → Redrawn (model.tests size radius) u ch S B P (t .points) (t′ .points) (t .statuses) (t′ .statuses) (t .blockers) (t′ .blockers) (t .pairs) (t′ .pairs)
 
 or-right : (a b : Bool) → a || b ≡ false → b ≡ false
 or-right true b e = absurd (true≢false e)
@@ -290,9 +263,9 @@ module _ (m : Map) (r : Float) (t : Tables) (pass : refuseRadius (short (needs t
               pairsRoom = rebuild-room .1 .1 .1 .1 .0;
             }
 
-        module _ (t′ : Tables) {near : ℕ} (same : t′ .cells ≡ t .cells) (v : near ≡ reach shift) (d : Draws (m .size) r near (take (m .cells) (t .cells)) [] [] ks moods n 0 t t′) where
+        module _ (t′ : Tables) {near : ℕ} (same : t′ .cells ≡ t .cells) (v : near ≡ reach shift) (d : Redraws (m .size) r near (take (m .cells) (t .cells)) [] [] ks moods n 0 t t′) where
           drawn : Redrawn T C [] S [] (edgeAt (M .layer)) (t .points) (t′ .points) (t .statuses) (t′ .statuses) (t .blockers) (t′ .blockers) (t .pairs) (t′ .pairs)
-          drawn = subst (λ (u : List ℕ). Draws (m .size) r near u [] [] ks moods n 0 t t′) same-cells d [] S [] (edgeAt (M .layer)) (v ∙ ap reach e) drawing
+          drawn = subst (λ (u : List ℕ). Redraws (m .size) r near u [] [] ks moods n 0 t t′) same-cells d [] S [] (edgeAt (M .layer)) (v ∙ ap reach e) drawing
 
           held : HoldsLayer (t′ .points) (t′ .statuses) (t′ .blockers) (t′ .pairs) n l′
           held =
@@ -319,21 +292,18 @@ module _ (m : Map) (r : Float) (t : Tables) (pass : refuseRadius (short (needs t
     -- too many points: nothing is altered
     pub rebuild-packed : (o : Outcome) → maxPoints < n → o ≡ refusedWith 7 → Rebuilding m r t t o
     rebuild-packed o k q =
-        rebuild-refused m r t 7 o (λ z. omega arith) q (λ i z. absurd (let a : 0 ≡ suc i = sym pass ∙ z in omega arith))
+        rebuild-refused m r t 7 o apart q (λ i z. absurd (apart (sym z ∙ pass)))
         (λ M h. judged-points m r t h pass true (lt-ltb maxPoints _ (many h f e g k)))
 
     -- else the tables drawn anew
-    pub rebuild-done : (t′ : Tables) (near : ℕ) → t′ .cells ≡ t .cells → n ≤ maxPoints → near ≡ reach shift → Draws (m .size) r near (take (m .cells) (t .cells)) [] [] ks moods n 0 t t′
+    pub rebuild-done : (t′ : Tables) (near : ℕ) → t′ .cells ≡ t .cells → n ≤ maxPoints → near ≡ reach shift → Redraws (m .size) r near (take (m .cells) (t .cells)) [] [] ks moods n 0 t t′
         → Rebuilding m r t t′ (record { refusal = 0; map = record { size = m .size; radius = r; cells = m .cells; points = n } })
     rebuild-done t′ near same k v d =
         record {
-          input = λ i z. absurd (apart i (sym pass ∙ z));
+          input = λ i z. absurd (apart (sym z ∙ pass));
           refusal = λ M h. judged-points m r t h pass false (le-ltb maxPoints _ (few h f e g k));
-          refused = λ i z. absurd (apart i z);
+          refused = λ i z. absurd (apart (sym z));
           answer = λ M h z. ap (λ (i : ℕ). record { size = m .size; radius = r; cells = m .cells; points = i }) (count h f e g (few h f e g k));
           holds = λ M h z. holds h f e g (few h f e g k) t′ same v d;
           behind = λ M h z. behind h f e g (few h f e g k) t′ same v d;
         }
-      where
-        apart : (i : ℕ) → 0 ≡ suc i → ⊥
-        apart i z = omega arith

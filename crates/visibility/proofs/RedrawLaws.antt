@@ -1,14 +1,13 @@
 -- A layer's tables drawn anew, from what each step leaves. Assumes nothing.
-use Prim.Native.Nat.{ℕ, zero, suc, _+_, _-_, _≤_, _<_, zero-le}
+use Prim.Native.Nat.{ℕ, zero, suc, _+_, _≤_, _<_, zero-le}
 use native.Mathlib.Nat.{le-of-suc-le-suc, not-suc-le-zero}
 use native.Mathlib.Omega.{arith}
 use mathlib.Core.Path.{_≡_, refl, sym, ap, _∙_}
 use mathlib.Core.List.{List, [], _∷_, _++_}
 use mathlib.Core.Option.{Option, none}
 use lib.ListN.{length, take, drop, getD, replicate, set, length-append, length-drop, length-set, length-replicate, getD-replicate, List·getD-append}
-use lib.Seq.{drop-append-seam}
+use lib.Seq.{drop-at}
 use Rattle.lists.proofs.Front.{mix, mix-done, mix-more}
-use Rattle.marks.proofs.PointsLaws.{drop-zeros}
 use Rattle.marks.specs.Standing.{Small, Standing, mood, word}
 use Rattle.marks.specs.declared.mood.Mood.{Mood}
 use Rattle.model.specs.Batch.{Batch}
@@ -25,6 +24,7 @@ use Rattle.table.proofs.ListedLaws.{keys-length}
 use Rattle.table.proofs.TableLaws.{pad-length, pad-take}
 use Rattle.visibility.specs.Layers.{numbersOf}
 use Rattle.visibility.specs.Redraw.{Drawing, Redrawn}
+use Rattle.visibility.proofs.PadLaws.{copied, padded}
 
 -- ---- the statuses
 numbers-length : (S : Stood) → length (numbersOf S) ≡ length S
@@ -68,14 +68,7 @@ module _ (moods out out′ : List ℕ) (i : ℕ) (room : length moods ≤ length
       let j : i ≡ length S = omega (arith, w .inside) in
       w .is S f e ∙ ap (mix (numbersOf S) out) j ∙ mix-done (numbersOf S) out (length S) (numbers-length S)
 
--- ---- lists with zeros behind
-padded : (l : List ℕ) (n m : ℕ) → length l ≡ n → l ++ drop n (replicate m 0) ≡ pad m l
-padded l n m e = ap (λ (u : List ℕ). l ++ u) (drop-zeros n m ∙ ap (λ (x : ℕ). replicate (m - x) 0) (sym e))
-
--- a list of a table's need, copied
-copied-whole : (l t t′ : List ℕ) (n : ℕ) → length l ≡ n → n ≤ length t → Copied l t t′ → t′ ≡ l ++ drop n t
-copied-whole l t t′ n e h c = let j : length l ≤ length t = omega arith in c .done j ∙ ap (λ (x : ℕ). l ++ drop x t) e
-
+-- ---- the blockers and the pairs
 blocks-length : (t : Tests) (C : List ℕ) (ch : Batch) (B : List (Option ℕ)) (S : Stood) → length (pointBlocks t C ch B S) ≡ length S
 unfolding pointBlocks
 blocks-length t C ch B [] = refl
@@ -119,10 +112,10 @@ module _ (t : Tests) (C : List ℕ) (ch : Batch) (S : Stood) (B : List (Option �
     whole = h .same ∙ length-replicate {A = ℕ} 4096 0
 
     pairs-is : pairs′ ≡ joined ++ drop pairPlaces pairs
-    pairs-is = copied-whole joined pairs pairs′ pairPlaces whole (d .pairsRoom) o
+    pairs-is = copied joined joined pairs pairs′ pairPlaces refl whole (d .pairsRoom) o
 
     store : (l u u′ v : List ℕ) → u ≡ pad maxPoints l → length l ≤ maxPoints → maxPoints ≤ length v → Copied u v u′ → u′ ≡ pad maxPoints l ++ drop maxPoints v
-    store l u u′ v q few room c = copied-whole u v u′ maxPoints (ap length q ∙ pad-length maxPoints l few) room c ∙ ap (λ (x : List ℕ). x ++ drop maxPoints v) q
+    store l u u′ v q few room = copied u (pad maxPoints l) v u′ maxPoints q (pad-length maxPoints l few) room
 
     pub redrawn : Redrawn t C ch S B P points points′ statuses statuses′ blockers blockers′ pairs pairs′
     redrawn =
@@ -134,6 +127,6 @@ module _ (t : Tests) (C : List ℕ) (ch : Batch) (S : Stood) (B : List (Option �
           pairsAre = λ i j x y.
               let z : pairPlace i j < length joined = rw whole (omega arith) in
               ap (λ (u : List ℕ). getD u (pairPlace i j) 0) pairs-is ∙ List·getD-append joined (drop pairPlaces pairs) 0 (pairPlace i j) z ∙ h .pairs i j x y;
-          pairsBehind = ap (drop pairPlaces) pairs-is ∙ ap (λ (x : ℕ). drop x (joined ++ drop pairPlaces pairs)) (sym whole) ∙ drop-append-seam joined (drop pairPlaces pairs);
+          pairsBehind = ap (drop pairPlaces) pairs-is ∙ drop-at joined (drop pairPlaces pairs) pairPlaces whole;
           pairsLong = ap length pairs-is ∙ simp (length-append, length-drop, whole) (let r = d .pairsRoom in omega arith);
         }

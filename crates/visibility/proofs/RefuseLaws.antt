@@ -1,6 +1,5 @@
 -- A map's refusals in their order. Assumes nothing.
-use Prim.Native.Nat.{ℕ, suc, _≤_, _<_}
-use native.Mathlib.Omega.{arith}
+use Prim.Native.Nat.{ℕ, _≤_, _<_}
 use mathlib.Core.Path.{_≡_, refl, sym, _∙_}
 use mathlib.Core.Bool.{Bool, true, false, cond, _||_, or-false}
 use mathlib.Core.List.{List, [], _∷_}
@@ -8,6 +7,7 @@ use lib.Dec.{ltb}
 use lib.ListN.{length}
 use lib.Ieee.{Float}
 use borrow.Author.Tests.{lt-ltb, le-ltb}
+use Rattle.grid.proofs.RefuseLaws.{apart}
 use Rattle.grid.specs.Batches as grid
 use Rattle.model.specs.Map.{Entry}
 use Rattle.model.specs.Refusal.{badRadius, badSize, firstOf, outside, short, unsorted, verdict}
@@ -28,19 +28,46 @@ pub short-last : (n need : ℕ) → ltb n need ≡ short ((n, need) ∷ [])
 unfolding short
 short-last n need = sym (or-false (ltb n need))
 
+-- ---- the first refusal that is due, else n
+abbrev pub inTurn : List (ℕ × Bool) → ℕ → ℕ
+inTurn [] n = n
+inTurn (b ∷ l) n = cond (b .1) (b .0) (inTurn l n)
+
+-- where one is due, n does not count
+pub turn-some : (l : List (ℕ × Bool)) (n : ℕ) → (inTurn l 0 ≡ 0 → ⊥) → inTurn l 0 ≡ inTurn l n
+turn-some [] n f = absurd (f refl)
+turn-some (b ∷ l) n f = go (b .1) f (turn-some l n)
+  where
+    go : (s : Bool) → (cond s (b .0) (inTurn l 0) ≡ 0 → ⊥) → ((inTurn l 0 ≡ 0 → ⊥) → inTurn l 0 ≡ inTurn l n) → cond s (b .0) (inTurn l 0) ≡ cond s (b .0) (inTurn l n)
+    go true f ih = refl
+    go false f ih = ih f
+
+-- where none is, n is all
+abbrev pub Somes : List (ℕ × Bool) → Type 0
+Somes [] = Unit {0}
+Somes (b ∷ l) = (b .0 ≡ 0 → ⊥) × Somes l
+
+pub turn-none : (l : List (ℕ × Bool)) (n : ℕ) → Somes l → inTurn l 0 ≡ 0 → n ≡ inTurn l n
+turn-none [] n a e = refl
+turn-none (b ∷ l) n a e = go (b .1) e (turn-none l n (a .1))
+  where
+    go : (s : Bool) → cond s (b .0) (inTurn l 0) ≡ 0 → (inTurn l 0 ≡ 0 → n ≡ inTurn l n) → n ≡ cond s (b .0) (inTurn l n)
+    go true e ih = absurd (a .0 e)
+    go false e ih = ih e
+
 -- ---- a batch
-abbrev batchThen : Bool → Bool → Bool → ℕ → ℕ
-batchThen long disorder off n = cond long 3 (cond disorder 4 (cond off 5 n))
+abbrev ofEntries : List Entry → List (ℕ × Bool)
+ofEntries l = (3, ltb 256 (length l)) ∷ (4, unsorted l) ∷ (5, outside l) ∷ []
+
+abbrev pub ofInput : Bool → Map → List Entry → List (ℕ × Bool)
+ofInput s m l = (9, s) ∷ (1, badSize (m .size)) ∷ (2, badRadius (m .size) (m .radius)) ∷ ofEntries l
 
 module _ (s : Bool) (m : Map) (l : List Entry) (w p : Bool) where
-  abbrev rest : ℕ → ℕ
-  rest = batchThen (ltb 256 (length l)) (unsorted l) (outside l)
-
-  pub in-turn : refuseBatch s m l w p ≡ cond s 9 (cond (badSize (m .size)) 1 (cond (badRadius (m .size) (m .radius)) 2 (rest (cond w 6 (cond p 7 0)))))
+  pub in-turn : refuseBatch s m l w p ≡ inTurn (ofInput s m l) (cond w 6 (cond p 7 0))
   unfolding refuseBatch verdict firstOf
   in-turn = refl
 
-  batch-turn : grid.refuseBatch l ≡ rest 0
+  batch-turn : grid.refuseBatch l ≡ inTurn (ofEntries l) 0
   unfolding grid.refuseBatch firstOf
   batch-turn = refl
 
@@ -56,30 +83,15 @@ module _ (s : Bool) (m : Map) (l : List Entry) (w p : Bool) where
       batch-radius g = sym (in-turn ∙ rw (e, f, g) refl)
 
       module _ (g : badRadius (m .size) (m .radius) ≡ false) where
-        known : refuseBatch s m l w p ≡ rest (cond w 6 (cond p 7 0))
+        known : refuseBatch s m l w p ≡ inTurn (ofEntries l) (cond w 6 (cond p 7 0))
         known = in-turn ∙ rw (e, f, g) refl
 
         pub batch-entries : (n : ℕ) → n ≡ grid.refuseBatch l → (n ≡ 0 → ⊥) → n ≡ refuseBatch s m l w p
-        batch-entries n h some = h ∙ batch-turn ∙ go (ltb 256 (length l)) (unsorted l) (outside l) (λ z. some (h ∙ batch-turn ∙ z)) ∙ sym known
-          where
-            go : (x y z : Bool) → (batchThen x y z 0 ≡ 0 → ⊥) → batchThen x y z 0 ≡ batchThen x y z (cond w 6 (cond p 7 0))
-            go true y z h = refl
-            go false true z h = refl
-            go false false true h = refl
-            go false false false h = absurd (h refl)
+        batch-entries n h some = h ∙ batch-turn ∙ turn-some (ofEntries l) (cond w 6 (cond p 7 0)) (λ z. some (h ∙ batch-turn ∙ z)) ∙ sym known
 
         -- 6 where there are too many cells, 7 where there are too many points, else 0
         pub batch-last : (n : ℕ) → n ≡ grid.refuseBatch l → n ≡ 0 → cond w 6 (cond p 7 0) ≡ refuseBatch s m l w p
-        batch-last n h z = go (ltb 256 (length l)) (unsorted l) (outside l) (sym batch-turn ∙ sym h ∙ z) ∙ sym known
-          where
-            apart : {k : ℕ} → suc k ≡ 0 → ⊥
-            apart e = omega arith
-
-            go : (x y v : Bool) → batchThen x y v 0 ≡ 0 → _≡_ {A = ℕ} (cond w 6 (cond p 7 0)) (batchThen x y v (cond w 6 (cond p 7 0)))
-            go true y v h = absurd (apart h)
-            go false true v h = absurd (apart h)
-            go false false true h = absurd (apart h)
-            go false false false h = refl
+        batch-last n h z = turn-none (ofEntries l) (cond w 6 (cond p 7 0)) (apart, (apart, (apart, tt))) (sym batch-turn ∙ sym h ∙ z) ∙ sym known
 
 -- ---- a radius
 module _ (s : Bool) (m : Map) (r : Float) where

@@ -22,12 +22,12 @@ use Rattle.model.proofs.EdgeLaws.{cond-ap}
 use Rattle.model.proofs.MapLaws.{T→true, keys-has}
 use Rattle.model.proofs.OrderLaws.{Within, asc-keys, asc-within}
 use Rattle.model.proofs.Phase1Points.{stays-any}
-use Rattle.model.proofs.SingleLaws.{length-keys}
 use Rattle.model.proofs.StandLaws.{stand-any, stand-few, stand-order}
 use Rattle.sight.specs.Blocked.{Fitting, wordsOf}
 use Rattle.table.specs.Listed.{values}
 use Rattle.table.specs.Tables.{All, rank}
 use Rattle.table.proofs.AllLaws.{ascL-down}
+use Rattle.table.proofs.ListedLaws.{keys-length}
 use Rattle.visibility.specs.Layers.{numbersOf, stoodOf}
 use Rattle.visibility.proofs.PlaceLaws.{rank-inside}
 
@@ -101,7 +101,7 @@ module _ (ms : List Mark) (ps : Points) where
         go : (s : Bool) → has k (keys ps) ≡ s → cond s (suc (rank k (keys ps))) 0 ≤ length ps
         go true e =
             let h : rank k (keys ps) < length (keys ps) = rank-inside k (keys ps) (asc-keys 0 ps order) e in
-            let n = length-keys ps in
+            let n = keys-length ps in
             omega arith
         go false e = omega arith
 
@@ -187,7 +187,7 @@ module _ {t : Tests} {C : List ℕ} {ch : Batch} (cs : List (ℕ × Bits)) {l l�
   ended-values = over-values cl order
 
   pub ended-length : length (ended (t .shift) (l .points) cs) ≡ length (l′ .points)
-  ended-length = sym (length-keys (ended (t .shift) (l .points) cs)) ∙ ap length ended-keys ∙ length-keys (l′ .points)
+  ended-length = sym (keys-length (ended (t .shift) (l .points) cs)) ∙ ap length ended-keys ∙ keys-length (l′ .points)
 
   -- a word has room for each
   pub fitting : length (l .points) ≤ maxPoints → length cs ≤ needCorners → Fitting (stoodOf (marks (t .shift) cs) (l .points) (l′ .points))

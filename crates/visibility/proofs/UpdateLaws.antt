@@ -1,4 +1,4 @@
--- A batch that nothing but the number of points may refuse: the layer afterwards in closed form, the lists handed on, and what the call comes to. Assumes nothing.
+-- A batch that nothing but the number of points may refuse: the lists handed on, and what the call comes to. Assumes nothing.
 use Prim.Native.Nat.{ℕ, _≤_, _<_}
 use native.Mathlib.Omega.{arith}
 use mathlib.Core.Path.{_≡_, refl, sym, ap, _∙_, subst}
@@ -10,23 +10,15 @@ use lib.ListN.{length, replicate, take}
 use borrow.Author.Tests.{ltb-false, ltb-true}
 use Rattle.corner.specs.Changes.{numbered}
 use Rattle.grid.specs.Batches.{flags}
-use Rattle.grid.proofs.BatchLaws.{Settled, batch-length, settled}
 use Rattle.grid.proofs.FloorLaws.{holds-cells}
 use Rattle.marks.specs.Marked.{Marking}
-use Rattle.model.specs.Batch.{Batch, cellsAfter, confirmed, cornerChanges}
+use Rattle.model.specs.Batch.{cellsAfter, confirmed, cornerChanges}
 use Rattle.model.specs.Cell.{reach}
-use Rattle.model.specs.ClosedForm.{Closed, marksIn}
-use Rattle.model.specs.Corner.{Bits}
-use Rattle.model.specs.Good.{Good}
-use Rattle.model.specs.Layer.{Tests, marks}
+use Rattle.model.specs.Layer.{marks}
 use Rattle.model.specs.Limits.{maxPoints, needConfirmed, needCorners}
 use Rattle.model.specs.Map as model
 use Rattle.model.specs.Maps.{AscL}
 use Rattle.model.specs.Refusal.{outside, unsorted}
-use Rattle.model.proofs.ClosedForm.{change-closed}
-use Rattle.model.proofs.LayerLaws.{Lawful}
-use Rattle.model.proofs.RunLaws.{batch-ascends, batch-inside}
-use Rattle.model.proofs.TestLaws.{lawful, tests-shift}
 use Rattle.sight.specs.Blocked.{wordsOf}
 use Rattle.table.specs.Listed.{Listed}
 use Rattle.table.proofs.ListedLaws.{listed-cells, listed-numbers}
@@ -36,9 +28,10 @@ use Rattle.visibility.specs.Layers.{stoodOf}
 use Rattle.visibility.specs.Update.{Finishing, Updated, Updating, pointsAfter}
 use Rattle.visibility.specs.declared.change.Changed.{Changed}
 use Rattle.visibility.specs.declared.map.Map.{Map}
-use Rattle.visibility.proofs.BorderLaws.{changes-bordered, changes-length}
+use Rattle.visibility.proofs.AcceptedLaws.{C′, M′, T, ch, closed, cs, few-corners, good, law, same-shift, set}
+use Rattle.visibility.proofs.BorderLaws.{changes-bordered}
 use Rattle.visibility.proofs.LayerLaws.{layer-keys, layer-statuses}
-use Rattle.visibility.proofs.MarkLaws.{Marks, left-few, left-many, numbered-keys}
+use Rattle.visibility.proofs.MarkLaws.{Marks, marked-count, marked-few, marked-keys, marked-many, marked-words, numbered-keys}
 use Rattle.visibility.proofs.StoodLaws.{marking}
 
 -- what the listing promises, of the cells u
@@ -50,63 +43,20 @@ Lists l u turned turned′ says says′ corners corners′ bits bits′ changes 
 
 -- ---- the batch l on the map M, which m and t hold
 module _ {m : Map} {t : Tables} {M : model.Map} {l : List model.Entry} (u : Updating m t M l) where
-  abbrev T : Tests
-  T = model.tests (M .size) (M .layer .radius)
-
-  abbrev C : List ℕ
-  C = M .cells
-
-  abbrev b : Batch
-  b = model.toBatch l
-
-  abbrev C′ : List ℕ
-  C′ = cellsAfter b C
-
-  abbrev ch : Batch
-  ch = confirmed b C
-
-  abbrev cs : List (ℕ × Bits)
-  cs = cornerChanges C C′ ch
-
-  abbrev M′ : model.Map
-  M′ = model.next (model.batch l) M
-
-  same-shift : T .shift ≡ model.shiftOf (M .size) (M .layer .radius)
-  same-shift = tests-shift (M .size) (M .layer .radius)
-
-  law : Lawful T
-  law = lawful (M .size) (M .layer .radius) (u .radius)
-
-  pub update-settled : Settled b C
-  update-settled = settled l C (u .holds .cells .order) (u .order) (u .bounds)
-
-  -- the layer afterwards is the closed form
-  pub update-closed : Closed T C′ ch (marksIn (T .shift) C b) (M .layer) (M′ .layer)
-  unfolding model.next model.changed
-  update-closed =
-      change-closed T law C (M .layer) (subst (λ (z : ℕ). Good z C (M .layer)) (sym same-shift) (u .holds .good)) b (batch-ascends l (u .order) (u .bounds)) (batch-inside l (u .bounds))
-
-  pub corners-few : length cs ≤ needCorners
-  corners-few =
-      let x = changes-length C C′ ch in
-      let y = update-settled .fewer in
-      let z : length b ≡ length l = batch-length l in
-      omega (arith, x, y, z, u .few)
-
   -- the lists of the changes and of the corners
   module _ {turned turned′ says says′ corners corners′ bits bits′ : List ℕ} {changes found : ℕ}
       (f : Lists l (take (m .cells) (t .cells)) turned turned′ says says′ corners corners′ bits bits′ changes found) where
     lists : Listed (changesOf M l) turned turned′ says says′ changes × Listed (cornersOf M l) corners corners′ bits bits′ found
     lists =
-        subst (λ (v : List ℕ). Lists l v turned turned′ says says′ corners corners′ bits bits′ changes found) (holds-cells (t .cells) (m .cells) C (u .holds .cells)) f
+        subst (λ (v : List ℕ). Lists l v turned turned′ says says′ corners corners′ bits bits′ changes found) (holds-cells (t .cells) (m .cells) (M .cells) (u .holds .cells)) f
         (u .holds .cells .order) (u .order) (u .bounds)
 
-    given : Marking (T .shift) (M .layer .points) cs (take (m .points) (t .points)) (take (m .points) (t .statuses)) (take found corners′) (take found bits′)
+    given : Marking (T M .shift) (M .layer .points) (cs M l) (take (m .points) (t .points)) (take (m .points) (t .statuses)) (take found corners′) (take found bits′)
     given =
         let w : Listed (cornersOf M l) corners corners′ bits bits′ found = lists .1 in
-        marking cs update-closed (u .holds .good .pointOrder) (law .small) (u .holds .layer .room) corners-few
-        (changes-bordered C C′ ch (update-settled .inside)) (take (m .points) (t .points)) (take (m .points) (t .statuses)) (take found corners′) (take found bits′)
-        (layer-keys (u .holds .layer)) (layer-statuses (u .holds .layer)) (listed-cells (cornersOf M l) corners corners′ bits bits′ found w ∙ numbered-keys cs)
+        marking (cs M l) (closed u) (good u .pointOrder) (law u .small) (u .holds .layer .room) (few-corners u)
+        (changes-bordered (M .cells) (C′ M l) (ch M l) (set u .inside)) (take (m .points) (t .points)) (take (m .points) (t .statuses)) (take found corners′) (take found bits′)
+        (layer-keys (u .holds .layer)) (layer-statuses (u .holds .layer)) (listed-cells (cornersOf M l) corners corners′ bits bits′ found w ∙ numbered-keys (cs M l))
         (listed-numbers (cornersOf M l) corners corners′ bits bits′ found w)
 
     -- the points that the marks leave
@@ -115,17 +65,19 @@ module _ {m : Map} {t : Tables} {M : model.Map} {l : List model.Entry} (u : Upda
       shift-is : shift ≡ model.shiftOf (M .size) (M .layer .radius)
       shift-is = e ∙ ap (λ (z : Float). model.shiftOf z (m .radius)) (u .holds .size) ∙ ap (model.shiftOf (M .size)) (u .holds .radius)
 
-      marked : Marks (T .shift) (take (m .points) (t .points)) (take (m .points) (t .statuses)) (take found corners′) (take found bits′) (replicate maxPoints 0) ks (replicate maxPoints 0) moods n
+      marked : Marks (T M .shift) (take (m .points) (t .points)) (take (m .points) (t .statuses)) (take found corners′) (take found bits′) (replicate maxPoints 0) ks (replicate maxPoints 0) moods n
       marked =
           subst (λ (v : ℕ). Marks v (take (m .points) (t .points)) (take (m .points) (t .statuses)) (take found corners′) (take found bits′) (replicate maxPoints 0) ks (replicate maxPoints 0) moods n)
-          (shift-is ∙ sym same-shift) g
+          (shift-is ∙ sym (same-shift M)) g
 
-      too-many : maxPoints < pointsAfter M l → n ≡ 65
-      too-many = left-many cs update-closed (u .holds .good .pointOrder) given marked
+      many : maxPoints < n → maxPoints < pointsAfter M l
+      many = marked-many (cs M l) (closed u) (good u .pointOrder) given marked
+
+      few : n ≤ maxPoints → pointsAfter M l ≤ maxPoints
+      few = marked-few (cs M l) (closed u) (good u .pointOrder) given marked
 
       finishing : pointsAfter M l ≤ maxPoints → Finishing m t M l (take changes turned′) (take changes says′) (take found corners′) (take found bits′) ks moods n
       finishing h =
-          let w = left-few cs update-closed (u .holds .good .pointOrder) given marked h in
           let p = lists .0 in
           let q = lists .1 in
           record {
@@ -135,9 +87,9 @@ module _ {m : Map} {t : Tables} {M : model.Map} {l : List model.Entry} (u : Upda
             fullAre = listed-numbers (changesOf M l) turned turned′ says says′ changes p;
             cornersAre = listed-cells (cornersOf M l) corners corners′ bits bits′ found q;
             bitsAre = listed-numbers (cornersOf M l) corners corners′ bits bits′ found q;
-            number = w .0;
-            keysAre = w .1;
-            moodsAre = w .2 ∙ ap (λ (v : ℕ). wordsOf (stoodOf (marks v cs) (M .layer .points) (M′ .layer .points))) same-shift;
+            number = marked-count (cs M l) (closed u) (good u .pointOrder) given marked h;
+            keysAre = marked-keys (cs M l) (closed u) (good u .pointOrder) given marked h;
+            moodsAre = marked-words (cs M l) (closed u) (good u .pointOrder) given marked h ∙ ap (λ (v : ℕ). wordsOf (stoodOf (marks v (cs M l)) (M .layer .points) (M′ M l .layer .points))) (same-shift M);
           }
 
 -- ---- the call
@@ -154,7 +106,7 @@ module _ (m : Map) (l : List model.Entry) (t : Lent) {turned turned′ says says
       }
     where
       full : (M : model.Map) → Updating m (t .tables) M l → pointsAfter M l ≤ maxPoints → ⊥
-      full M u z = let k : n ≡ pointsAfter M l = finishing u f e g z .number in omega (arith, h, z, k)
+      full M u z = let k = many u f e g h in omega (arith, z, k)
 
   -- else the rest is done
   abbrev Finished : Lent → Changed → ℕ → Type 0
@@ -175,4 +127,4 @@ module _ (m : Map) (l : List model.Entry) (t : Lent) {turned turned′ says says
       }
     where
       full : (M : model.Map) → Updating m (t .tables) M l → maxPoints < pointsAfter M l → ⊥
-      full M u o = let k : n ≡ 65 = too-many u f e g o in omega (arith, h, k)
+      full M u o = let k = few u f e g h in omega (arith, o, k)

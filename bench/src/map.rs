@@ -1,0 +1,239 @@
+//! The archive of `rt staticlib visibility_c`: a map with the tables that it is lent.
+use oracle::question::Entry;
+
+unsafe extern "C" {
+    fn runcedau_map_open(
+        size: f64,
+        radius: f64,
+        cells: *mut u64,
+        cells_len: usize,
+        points: *mut u64,
+        points_len: usize,
+        statuses: *mut u8,
+        statuses_len: usize,
+        blockers: *mut u64,
+        blockers_len: usize,
+        pairs: *mut u64,
+        pairs_len: usize,
+    ) -> u8;
+    fn runcedau_map_change_cells(
+        size: f64,
+        radius: f64,
+        count: usize,
+        many: usize,
+        cells: *mut u64,
+        cells_len: usize,
+        points: *mut u64,
+        points_len: usize,
+        statuses: *mut u8,
+        statuses_len: usize,
+        blockers: *mut u64,
+        blockers_len: usize,
+        pairs: *mut u64,
+        pairs_len: usize,
+        batch: *const i64,
+        batch_len: usize,
+        confirmed: *mut u64,
+        confirmed_len: usize,
+        full: *mut u8,
+        full_len: usize,
+        corners: *mut u64,
+        corners_len: usize,
+        altered: *mut u8,
+        altered_len: usize,
+        counts: *mut u64,
+        counts_len: usize,
+    ) -> u8;
+    fn runcedau_map_change_radius(
+        size: f64,
+        radius: f64,
+        count: usize,
+        many: usize,
+        cells: *const u64,
+        cells_len: usize,
+        points: *mut u64,
+        points_len: usize,
+        statuses: *mut u8,
+        statuses_len: usize,
+        blockers: *mut u64,
+        blockers_len: usize,
+        pairs: *mut u64,
+        pairs_len: usize,
+        wanted: f64,
+        counts: *mut u64,
+        counts_len: usize,
+    ) -> u8;
+}
+
+/// All that is lent: equal maps have equal bytes.
+#[derive(Clone, PartialEq)]
+pub struct ProvedMap {
+    size: f64,
+    radius: f64,
+    count: usize,
+    many: usize,
+    cells: Vec<u64>,
+    points: Vec<u64>,
+    statuses: Vec<u8>,
+    blockers: Vec<u64>,
+    pairs: Vec<u64>,
+    confirmed: Vec<u64>,
+    full: Vec<u8>,
+    corners: Vec<u64>,
+    altered: Vec<u8>,
+    counts: [u64; 4],
+}
+
+impl ProvedMap {
+    pub fn open(size: f64, radius: f64) -> Result<Self, u8> {
+        let mut map = ProvedMap {
+            size,
+            radius,
+            count: 0,
+            many: 0,
+            cells: vec![7; 1_024],
+            points: vec![7; 64],
+            statuses: vec![7; 64],
+            blockers: vec![7; 64],
+            pairs: vec![7; 4_096],
+            confirmed: vec![0; 256],
+            full: vec![0; 256],
+            corners: vec![0; 2_304],
+            altered: vec![0; 2_304],
+            counts: [0; 4],
+        };
+        // SAFETY: every pointer is of a slice of the length given, and no two slices overlap.
+        let refusal = unsafe {
+            runcedau_map_open(
+                size,
+                radius,
+                map.cells.as_mut_ptr(),
+                map.cells.len(),
+                map.points.as_mut_ptr(),
+                map.points.len(),
+                map.statuses.as_mut_ptr(),
+                map.statuses.len(),
+                map.blockers.as_mut_ptr(),
+                map.blockers.len(),
+                map.pairs.as_mut_ptr(),
+                map.pairs.len(),
+            )
+        };
+        if refusal == 0 {
+            Ok(map)
+        } else {
+            Err(refusal)
+        }
+    }
+
+    /// Three numbers an entry.
+    pub fn batch(entries: &[Entry]) -> Vec<i64> {
+        entries
+            .iter()
+            .flat_map(|&(x, y, occupied)| [x, y, occupied as i64])
+            .collect()
+    }
+
+    pub fn change_cells(&mut self, batch: &[i64]) -> u8 {
+        // SAFETY: as above.
+        let refusal = unsafe {
+            runcedau_map_change_cells(
+                self.size,
+                self.radius,
+                self.count,
+                self.many,
+                self.cells.as_mut_ptr(),
+                self.cells.len(),
+                self.points.as_mut_ptr(),
+                self.points.len(),
+                self.statuses.as_mut_ptr(),
+                self.statuses.len(),
+                self.blockers.as_mut_ptr(),
+                self.blockers.len(),
+                self.pairs.as_mut_ptr(),
+                self.pairs.len(),
+                batch.as_ptr(),
+                batch.len(),
+                self.confirmed.as_mut_ptr(),
+                self.confirmed.len(),
+                self.full.as_mut_ptr(),
+                self.full.len(),
+                self.corners.as_mut_ptr(),
+                self.corners.len(),
+                self.altered.as_mut_ptr(),
+                self.altered.len(),
+                self.counts.as_mut_ptr(),
+                self.counts.len(),
+            )
+        };
+        if refusal == 0 {
+            self.count = self.counts[2] as usize;
+            self.many = self.counts[3] as usize;
+        }
+        refusal
+    }
+
+    pub fn change_radius(&mut self, wanted: f64) -> u8 {
+        // SAFETY: as above.
+        let refusal = unsafe {
+            runcedau_map_change_radius(
+                self.size,
+                self.radius,
+                self.count,
+                self.many,
+                self.cells.as_ptr(),
+                self.cells.len(),
+                self.points.as_mut_ptr(),
+                self.points.len(),
+                self.statuses.as_mut_ptr(),
+                self.statuses.len(),
+                self.blockers.as_mut_ptr(),
+                self.blockers.len(),
+                self.pairs.as_mut_ptr(),
+                self.pairs.len(),
+                wanted,
+                self.counts.as_mut_ptr(),
+                self.counts.len(),
+            )
+        };
+        if refusal == 0 {
+            self.radius = wanted;
+            self.many = self.counts[0] as usize;
+        }
+        refusal
+    }
+
+    pub fn cells(&self) -> &[u64] {
+        &self.cells[..self.count]
+    }
+
+    /// How many changes the last accepted batch confirmed.
+    pub fn confirmed(&self) -> u64 {
+        self.counts[0]
+    }
+
+    /// Each point's key with its status and its blocker, 0 for none.
+    pub fn points(&self) -> impl Iterator<Item = (u64, u8, u64)> + '_ {
+        (0..self.many).map(|i| (self.points[i], self.statuses[i], self.blockers[i]))
+    }
+
+    /// Each pair from either end, with 1 for an open one, or its blocker.
+    pub fn pairs(&self) -> impl Iterator<Item = (u64, u64, u64)> + '_ {
+        let all = (0..self.many).flat_map(|i| (0..self.many).map(move |j| (i, j)));
+        all.map(|(i, j)| (self.points[i], self.points[j], self.pairs[64 * i + j]))
+            .filter(|pair| pair.2 != 0)
+    }
+
+    /// What stands behind the used places is zero.
+    pub fn is_canonical(&self) -> bool {
+        let behind = |t: &[u64], n: usize| t[n..].iter().all(|&k| k == 0);
+        let square = (0..64).all(|i| {
+            (0..64).all(|j| i < self.many && j < self.many || self.pairs[64 * i + j] == 0)
+        });
+        behind(&self.cells, self.count)
+            && behind(&self.points, self.many)
+            && behind(&self.blockers, self.many)
+            && self.statuses[self.many..].iter().all(|&s| s == 0)
+            && square
+    }
+}

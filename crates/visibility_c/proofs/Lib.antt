@@ -1,0 +1,2 @@
+-- The laws of crate `visibility_c`.
+pub mod CountLaws

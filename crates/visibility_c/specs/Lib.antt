@@ -1,0 +1,2 @@
+-- What the contracts of crate `visibility_c` cite.
+pub mod Mapped
