@@ -1,4 +1,4 @@
--- Blockers and pairs as numbers of the lent tables. Definitions only.
+-- Blockers and pairs (the Rust's `Option<Cell>` in its maps) as numbers of the lent tables. Definitions only.
 use Prim.Native.Nat.{ℕ, _≤_}
 use mathlib.Core.Option.{Option, none, some}
 
