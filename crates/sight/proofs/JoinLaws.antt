@@ -29,7 +29,7 @@ use Rattle.table.specs.Tables.{All}
 use Rattle.table.proofs.ListedLaws.{keys-length}
 use Rattle.sight.specs.Blocked.{Fitting, Seeing, Stood, wordsOf}
 use Rattle.sight.specs.Codes.{pairCode}
-use Rattle.sight.specs.Paired.{Filled, Pairs, PairsNamed, pairAt, pairBetween, pairPlaces, pointAt}
+use Rattle.sight.specs.Paired.{Filled, Pairs, PairsNamed, pairAt, pairBetween, pointAt}
 use Rattle.sight.specs.Rows.{forePlace, upTo}
 use Rattle.sight.proofs.TableLaws.{filled-both, filled-end, filled-on, filled-over, filled-start}
 
@@ -86,7 +86,6 @@ pub record Joining (size radius : Float) (reach : Proximity) (C : List ℕ) (ch 
   pub near : IsProximity size radius reach
   pub pairs : Pairs P old
   pub named : PairsNamed P
-  pub room : pairPlaces ≤ length old
 
 -- what `Mood::of_word` tells of a word
 abbrev pub Reads : ℕ → Mood → Type 0
@@ -96,7 +95,7 @@ Reads n m = (s : Standing) → Small s → n ≡ word s → m ≡ mood s
 abbrev pub Told : Float → Float → Proximity → List ℕ → List ℕ → List ℕ → List ℕ → ℕ → Mood → ℕ → Mood → ℕ → Type 0
 Told size radius reach C turned full old p was q other r =
     (ch : Batch) (P : ℕ → ℕ → Option (Option ℕ)) (w v : Standing) → AscL 0 C → All (Inside maxCoordinate) C → All (Inside maxCoordinate) (keys ch) → turned ≡ keys ch → full ≡ values (flags ch)
-    → IsProximity size radius reach → Pairs P old → PairsNamed P → pairPlaces ≤ length old → was ≡ mood w → other ≡ mood v → w .old ≤ maxPoints → v .old ≤ maxPoints
+    → IsProximity size radius reach → Pairs P old → PairsNamed P → was ≡ mood w → other ≡ mood v → w .old ≤ maxPoints → v .old ≤ maxPoints
     → r ≡ pairCode (pairBetween (tests size radius) C ch P p w q v)
 
 module _ (size radius : Float) (reach : Proximity) (C turned full points moods old : List ℕ) where
@@ -116,7 +115,7 @@ module _ (size radius : Float) (reach : Proximity) (C turned full points moods o
       let b : other ≡ mood (y .1) = g (y .1) (fy .0) (ap (λ (m : List ℕ). getD m j 0) (s .moodsAre) ∙ words-at S j hj) in
       let p : getD points i 0 ≡ x .0 = ap (λ (m : List ℕ). getD m i 0) (s .pointsAre) ∙ keys-at S i nothing in
       let q : getD points j 0 ≡ y .0 = ap (λ (m : List ℕ). getD m j 0) (s .pointsAre) ∙ keys-at S j nothing in
-      t ch P (x .1) (y .1) (s .order) (s .inside) (s .changes) (s .turnedAre) (s .fullAre) (w .near) (w .pairs) (w .named) (w .room) a b (fx .1) (fy .1)
+      t ch P (x .1) (y .1) (s .order) (s .inside) (s .changes) (s .turnedAre) (s .fullAre) (w .near) (w .pairs) (w .named) a b (fx .1) (fy .1)
       ∙ ap (λ (k : ℕ). pairCode (pairBetween (tests size radius) C ch P k (x .1) (getD points j 0) (y .1))) p
       ∙ ap (λ (k : ℕ). pairCode (pairBetween (tests size radius) C ch P (x .0) (x .1) k (y .1))) q
       ∙ ap pairCode (sym (at-fore (tests size radius) C ch P S i j h hj))
@@ -140,7 +139,7 @@ module _ (size radius : Float) (reach : Proximity) (C turned full points moods o
         (record { same = refl; pairs = s; rest = refl });
   }
 
-  pub row-more : (i j : ℕ) (t t′ : List ℕ) (v : ℕ) → Row i j t t′ → j < length points → length points ≤ 64 → pairPlaces ≤ length t
+  pub row-more : (i j : ℕ) (t t′ : List ℕ) (v : ℕ) → Row i j t t′ → j < length points → length points ≤ 64 → 64 * length points ≤ length t
       → ((ch : Batch) (S : Stood) (P : ℕ → ℕ → Option (Option ℕ)) → Joining size radius reach C ch S P turned full points moods old → v ≡ pairCode (pairAt (tests size radius) C ch P S i j))
       → Row i (j + 1) t (set (set t′ (64 * i + j) v) (64 * j + i) v)
   row-more i j t t′ v w h l r f = record {
@@ -151,7 +150,8 @@ module _ (size radius : Float) (reach : Proximity) (C turned full points moods o
         let n : length points ≡ length S = ap length (g .seeing .pointsAre) ∙ keys-length S in
         let k : j < length S = omega arith in
         let b : j < 64 = omega arith in
-        filled-both (pairAt (tests size radius) C ch P S) t t′ i j v (w .above) b r (f ch S P g) (at-back (tests size radius) C ch P S i j (w .above) k ∙ sym (at-fore (tests size radius) C ch P S i j (w .above) k))
+        let e : 64 * j + i < length t = omega (arith, w .above) in
+        filled-both (pairAt (tests size radius) C ch P S) t t′ i j v (w .above) b e (f ch S P g) (at-back (tests size radius) C ch P S i j (w .above) k ∙ sym (at-fore (tests size radius) C ch P S i j (w .above) k))
         (w .done ch S P g s);
   }
 

@@ -42,7 +42,7 @@ module _ (Q : ℕ → ℕ → Option (Option ℕ)) where
       s a b x y ∙ ap pairCode (⊎-elim (λ l. up-in n a b l ∙ sym (up-in n′ a b (omega arith))) (λ g. up-out n a b g ∙ ⊎-elim (λ l. sym (up-in n′ a b l ∙ f a b x y g l)) (λ u. sym (up-out n′ a b u)) (lt-or-ge (forePlace a b) n′)) (lt-or-ge (forePlace a b) n))
 
   -- a pair is written from both ends
-  pub both-ends : (t : List ℕ) (i j v : ℕ) → i < j → j < 64 → pairPlaces ≤ length t → v ≡ pairCode (Q i j) → Q j i ≡ Q i j → Pairs (upTo (64 * i + j) Q) t
+  pub both-ends : (t : List ℕ) (i j v : ℕ) → i < j → j < 64 → 64 * j + i < length t → v ≡ pairCode (Q i j) → Q j i ≡ Q i j → Pairs (upTo (64 * i + j) Q) t
       → Pairs (upTo (64 * i + j + 1) Q) (set (set t (64 * i + j) v) (64 * j + i) v)
   both-ends t i j v h l r e m s a b x y = go (ℕ-discrete (64 * a + b) (64 * j + i)) (ℕ-discrete (64 * a + b) (64 * i + j))
     where
@@ -82,13 +82,13 @@ module _ (Q : ℕ → ℕ → Option (Option ℕ)) where
   pub filled-over : (t t′ : List ℕ) (n n′ : ℕ) → n ≤ n′ → ((a b : ℕ) → a < 64 → b < 64 → n ≤ forePlace a b → forePlace a b < n′ → Q a b ≡ none) → Filled (upTo n Q) t t′ → Filled (upTo n′ Q) t t′
   filled-over t t′ n n′ h f w = record { same = w .same; pairs = pass-over t′ n n′ h f (w .pairs); rest = w .rest }
 
-  pub filled-both : (t t′ : List ℕ) (i j v : ℕ) → i < j → j < 64 → pairPlaces ≤ length t → v ≡ pairCode (Q i j) → Q j i ≡ Q i j → Filled (upTo (64 * i + j) Q) t t′
+  pub filled-both : (t t′ : List ℕ) (i j v : ℕ) → i < j → j < 64 → 64 * j + i < length t → v ≡ pairCode (Q i j) → Q j i ≡ Q i j → Filled (upTo (64 * i + j) Q) t t′
       → Filled (upTo (64 * i + (j + 1)) Q) t (set (set t′ (64 * i + j) v) (64 * j + i) v)
   filled-both t t′ i j v h l r e m w =
       let k : 64 * i + j + 1 ≡ 64 * i + (j + 1) = omega arith in
       let a : 64 * j + i < pairPlaces = omega arith in
       let b : 64 * i + j < pairPlaces = omega arith in
-      let s : pairPlaces ≤ length t′ = rw (w .same) r in
+      let s : 64 * j + i < length t′ = rw (w .same) r in
       let p : Pairs (upTo (64 * i + j + 1) Q) (set (set t′ (64 * i + j) v) (64 * j + i) v) = both-ends t′ i j v h l s e m (w .pairs) in
       record {
         same = length-set (set t′ (64 * i + j) v) (64 * j + i) v ∙ length-set t′ (64 * i + j) v ∙ w .same;

@@ -60,7 +60,7 @@ Pairs P t = (i j : ℕ) → i < maxPoints → j < maxPoints → getD t (pairPlac
 abbrev pub PairsNamed : (ℕ → ℕ → Option (Option ℕ)) → Type 0
 PairsNamed P = (i j : ℕ) → NamedPair (P i j)
 
--- the table t, empty before, became t′
+-- the table t became t′, with the pairs P; what stands behind is untouched
 pub record Filled (P : ℕ → ℕ → Option (Option ℕ)) (t t′ : List ℕ) : Type 0 where
   pub same : length t′ ≡ length t
   pub pairs : Pairs P t′

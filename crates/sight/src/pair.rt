@@ -26,7 +26,7 @@ ghost use Rattle.table.specs.Listed.{values};
 ghost use Rattle.table.specs.Tables.{All};
 ghost use Rattle.sight.specs.Blocked.{Seeing, Stood};
 ghost use Rattle.sight.specs.Codes.{Named, blockCode, pairCode};
-ghost use Rattle.sight.specs.Paired.{Filled, Pairs, PairsNamed, oldPair, pairAt, pairBetween, pairPlaces, pairStart};
+ghost use Rattle.sight.specs.Paired.{Filled, Pairs, PairsNamed, oldPair, pairAt, pairBetween, pairStart};
 ghost use Rattle.sight.specs.Rows.{upTo};
 
 // The corner of the signs of q - p, where neither is zero.
@@ -75,7 +75,7 @@ fn is_sooner(a: u64, b: u64) -> bool
 
 // The pair of two old points as the old table has it, 0 where there is none.
 fn old_pair(old: &[u64], a: u64, b: u64) -> u64
-    ensures { λ r. ⌜ ((P : ℕ → ℕ → Option (Option ℕ)) (w v : Standing) → Pairs P (now (old .entry)) → pairPlaces ≤ length (now (old .entry)) → a ≡ w .old → b ≡ v .old → a ≤ maxPoints → b ≤ maxPoints → r ≡ pairCode (oldPair P w v)) ⌝ }
+    ensures { λ r. ⌜ ((P : ℕ → ℕ → Option (Option ℕ)) (w v : Standing) → Pairs P (now (old .entry)) → a ≡ w .old → b ≡ v .old → a ≤ maxPoints → b ≤ maxPoints → r ≡ pairCode (oldPair P w v)) ⌝ }
 {
     if a == 0 || b == 0 || 64 < a || 64 < b {
         return 0;
@@ -135,7 +135,7 @@ fn start_pair(
     q: u64,
     other: Mood,
 ) -> u64
-    ensures { λ r. ⌜ ((P : ℕ → ℕ → Option (Option ℕ)) (w v : Standing) → AscL 0 (now (cells .entry)) → All (Inside maxCoordinate) (now (cells .entry)) → Pairs P (now (old .entry)) → PairsNamed P → pairPlaces ≤ length (now (old .entry))
+    ensures { λ r. ⌜ ((P : ℕ → ℕ → Option (Option ℕ)) (w v : Standing) → AscL 0 (now (cells .entry)) → All (Inside maxCoordinate) (now (cells .entry)) → Pairs P (now (old .entry)) → PairsNamed P
         → was ≡ mood w → other ≡ mood v → w .old ≤ maxPoints → v .old ≤ maxPoints → r ≡ blockCode (pairStart (tests size radius) (now (cells .entry)) P p w q v)) ⌝ }
 {
     let held = old_pair(old, was.old, other.old);
@@ -167,7 +167,7 @@ fn pair_between(
 ) -> u64
     requires { ⌜ length (now turned) ≤ length (now full) ⌝ }
     ensures { λ r. ⌜ ((ch : Batch) (P : ℕ → ℕ → Option (Option ℕ)) (w v : Standing) → AscL 0 (now (cells .entry)) → All (Inside maxCoordinate) (now (cells .entry)) → All (Inside maxCoordinate) (keys ch) → now (turned .entry) ≡ keys ch → now (full .entry) ≡ values (flags ch)
-        → IsProximity size radius reach → Pairs P (now (old .entry)) → PairsNamed P → pairPlaces ≤ length (now (old .entry)) → was ≡ mood w → other ≡ mood v → w .old ≤ maxPoints → v .old ≤ maxPoints
+        → IsProximity size radius reach → Pairs P (now (old .entry)) → PairsNamed P → was ≡ mood w → other ≡ mood v → w .old ≤ maxPoints → v .old ≤ maxPoints
         → r ≡ pairCode (pairBetween (tests size radius) (now (cells .entry)) ch P p w q v)) ⌝ }
 {
     if !sees(p, q, other.bits) {
@@ -195,9 +195,9 @@ fn join_row(
     i: usize,
     out: &mut [u64],
 )
-    requires { ⌜ (length (now turned) ≤ length (now full)) × (length (now points) ≤ length (now moods)) × (length (now points) ≤ 64) × (i < length (now points)) × (4096 ≤ length (now out)) ⌝ }
+    requires { ⌜ (length (now turned) ≤ length (now full)) × (length (now points) ≤ length (now moods)) × (length (now points) ≤ 64) × (i < length (now points)) × (64 * length (now points) ≤ length (now out)) ⌝ }
     ensures { λ r. ⌜ ((ch : Batch) (S : Stood) (P : ℕ → ℕ → Option (Option ℕ)) → Seeing (now (cells .entry)) ch S (now (turned .entry)) (now (full .entry)) (now (points .entry)) (now (moods .entry)) → IsProximity size radius reach
-        → Pairs P (now (old .entry)) → PairsNamed P → pairPlaces ≤ length (now (old .entry)) → Pairs (upTo (64 * i) (pairAt (tests size radius) (now (cells .entry)) ch P S)) (now (out .entry))
+        → Pairs P (now (old .entry)) → PairsNamed P → Pairs (upTo (64 * i) (pairAt (tests size radius) (now (cells .entry)) ch P S)) (now (out .entry))
         → Filled (upTo (64 * (i + 1)) (pairAt (tests size radius) (now (cells .entry)) ch P S)) (now (out .entry)) (now (out .exit))) ⌝ }
 {
     let p = points[i];
@@ -237,13 +237,13 @@ pub fn join_pairs(
     out: &mut [u64],
 )
     ensures { λ r. ⌜ ((ch : Batch) (S : Stood) (P : ℕ → ℕ → Option (Option ℕ)) → Seeing (now (cells .entry)) ch S (now (turned .entry)) (now (full .entry)) (now (points .entry)) (now (moods .entry)) → Pairs P (now (old .entry)) → PairsNamed P
-        → pairPlaces ≤ length (now (old .entry)) → pairPlaces ≤ length (now (out .entry)) → length S ≤ maxPoints → Pairs (λ i j. none) (now (out .entry))
+        → maxPoints * length S ≤ length (now (out .entry)) → length S ≤ maxPoints → Pairs (λ i j. none) (now (out .entry))
         → Filled (pairAt (tests size radius) (now (cells .entry)) ch P S) (now (out .entry)) (now (out .exit))) ⌝ }
 {
     if full.len() < turned.len() || moods.len() < points.len() {
         return;
     }
-    if 64 < points.len() || out.len() < 4096 {
+    if 64 < points.len() || out.len() < 64 * points.len() {
         return;
     }
     let reach = Proximity::new(size, radius);

@@ -1,7 +1,7 @@
 -- A layer's tables drawn anew hold the layer afterwards, and what stands behind their needs is untouched. Assumes nothing.
 use Prim.Native.Nat.{ℕ, _≤_}
 use mathlib.Core.Path.{_≡_, ap, _∙_}
-use mathlib.Core.List.{List, _++_}
+use mathlib.Core.List.{List, [], _++_}
 use mathlib.Core.Option.{Option}
 use lib.ListN.{drop, length}
 use lib.Ieee.{Float}
@@ -18,12 +18,12 @@ use Rattle.model.specs.Map as model
 use Rattle.model.specs.Maps.{Asc, get, isSome, keys}
 use Rattle.sight.specs.Blocked.{Stood, codes}
 use Rattle.sight.specs.Codes.{pairCode}
-use Rattle.sight.specs.Paired.{pairAt, pairPlaces}
+use Rattle.sight.specs.Paired.{PairsNamed, pairPlaces}
 use Rattle.table.specs.Tables.{pad}
 use Rattle.table.proofs.ListedLaws.{keys-length}
 use Rattle.visibility.specs.Holds.{Behind, Tables}
 use Rattle.visibility.specs.Layers.{HoldsLayer, blocksOf, edgeAt, stoodOf}
-use Rattle.visibility.specs.Redraw.{Drawing, Redrawn}
+use Rattle.visibility.specs.Redraw.{Below, Drawing, InRows, Redrawn}
 use Rattle.visibility.proofs.BlockLaws.{blocks-are}
 use Rattle.visibility.proofs.LayerLaws.{codes-count}
 use Rattle.visibility.proofs.PadLaws.{written-rest, written-whole}
@@ -34,13 +34,20 @@ use Rattle.visibility.proofs.StoodLaws.{stood-keys, stood-statuses}
 abbrev pub Redraws : Float → Float → ℕ → List ℕ → List ℕ → List ℕ → List ℕ → List ℕ → ℕ → ℕ → Tables → Tables → Type 0
 Redraws size radius near C turned says ks moods n count t t′ =
     (ch : Batch) (S : Stood) (B : List (Option ℕ)) (P : ℕ → ℕ → Option (Option ℕ)) → near ≡ reach (model.shiftOf size radius)
-    → Drawing C ch S B P turned says ks moods (t .points) (t .statuses) (t .blockers) (t .pairs) n count
+    → Drawing C ch S B turned says ks moods (t .points) (t .statuses) (t .blockers) n count → PairsNamed P → InRows count P (t .pairs)
     → Redrawn (model.tests size radius) C ch S B P (t .points) (t′ .points) (t .statuses) (t′ .statuses) (t .blockers) (t′ .blockers) (t .pairs) (t′ .pairs)
 
--- ---- the tables u drawn anew as u′, from the old pairs P
+-- what `draw_afresh` promises, of the cells C
+abbrev pub Afresh : Float → Float → ℕ → List ℕ → List ℕ → List ℕ → List ℕ → List ℕ → ℕ → ℕ → Tables → Tables → Type 0
+Afresh size radius near C turned says ks moods n before t t′ =
+    (ch : Batch) (S : Stood) (P Q : ℕ → ℕ → Option (Option ℕ)) → near ≡ reach (model.shiftOf size radius)
+    → Drawing C ch S [] turned says ks moods (t .points) (t .statuses) (t .blockers) n 0 → Below 0 P → InRows before Q (t .pairs)
+    → Redrawn (model.tests size radius) C ch S [] P (t .points) (t′ .points) (t .statuses) (t′ .statuses) (t .blockers) (t′ .blockers) (t .pairs) (t′ .pairs)
+
+-- ---- the tables u drawn anew as u′
 module _ {t : Tests} {C : List ℕ} {ch : Batch} {ms : List Mark} {l l′ : Layer} (cl : Closed t C ch ms l l′) (order : Asc 0 (l .points))
-    (real : (k : ℕ) → isSome (get k (l .points)) ≡ anyBit (bitsIn (l .points) k)) (few : length (l′ .points) ≤ maxPoints) {P : ℕ → ℕ → Option (Option ℕ)} (u u′ : Tables)
-    (d : Redrawn t C ch (stoodOf ms (l .points) (l′ .points)) (blocksOf (l .points)) P (u .points) (u′ .points) (u .statuses) (u′ .statuses) (u .blockers) (u′ .blockers) (u .pairs) (u′ .pairs)) where
+    (real : (k : ℕ) → isSome (get k (l .points)) ≡ anyBit (bitsIn (l .points) k)) (few : length (l′ .points) ≤ maxPoints) (u u′ : Tables)
+    (d : Redrawn t C ch (stoodOf ms (l .points) (l′ .points)) (blocksOf (l .points)) (edgeAt l) (u .points) (u′ .points) (u .statuses) (u′ .statuses) (u .blockers) (u′ .blockers) (u .pairs) (u′ .pairs)) where
   few-keys : length (keys (l′ .points)) ≤ maxPoints
   few-keys = rw (keys-length (l′ .points)) few
 
@@ -51,25 +58,24 @@ module _ {t : Tests} {C : List ℕ} {ch : Batch} {ms : List Mark} {l l′ : Laye
   few-blocks = rw (codes-count (l′ .points)) few
 
   new-keys : u′ .points ≡ pad maxPoints (keys (l′ .points)) ++ drop maxPoints (u .points)
-  new-keys = d .keysAre ∙ ap (λ (z : List ℕ). pad maxPoints z ++ drop maxPoints (u .points)) (stood-keys ms (l .points) (l′ .points))
+  new-keys = d .drawn .keysAre ∙ ap (λ (z : List ℕ). pad maxPoints z ++ drop maxPoints (u .points)) (stood-keys ms (l .points) (l′ .points))
 
   new-statuses : u′ .statuses ≡ pad maxPoints (statusesOf (l′ .points)) ++ drop maxPoints (u .statuses)
-  new-statuses = d .statusesAre ∙ ap (λ (z : List ℕ). pad maxPoints z ++ drop maxPoints (u .statuses)) (stood-statuses cl)
+  new-statuses = d .drawn .statusesAre ∙ ap (λ (z : List ℕ). pad maxPoints z ++ drop maxPoints (u .statuses)) (stood-statuses cl)
 
   new-blocks : u′ .blockers ≡ pad maxPoints (codes (blocksOf (l′ .points))) ++ drop maxPoints (u .blockers)
-  new-blocks = d .blocksAre ∙ ap (λ (z : List (Option ℕ)). pad maxPoints (codes z) ++ drop maxPoints (u .blockers)) (blocks-are cl order real)
+  new-blocks = d .drawn .blocksAre ∙ ap (λ (z : List (Option ℕ)). pad maxPoints (codes z) ++ drop maxPoints (u .blockers)) (blocks-are cl order real)
 
-  pub drawn-holds : ((i j : ℕ) → pairAt t C ch P (stoodOf ms (l .points) (l′ .points)) i j ≡ pairAt t C ch (edgeAt l) (stoodOf ms (l .points) (l′ .points)) i j) → pairPlaces ≤ length (u .pairs)
-      → (n : ℕ) → n ≡ length (l′ .points) → HoldsLayer (u′ .points) (u′ .statuses) (u′ .blockers) (u′ .pairs) n l′
-  drawn-holds same room n e =
+  pub drawn-holds : pairPlaces ≤ length (u .pairs) → (n : ℕ) → n ≡ length (l′ .points) → HoldsLayer (u′ .points) (u′ .statuses) (u′ .blockers) (u′ .pairs) n l′
+  drawn-holds room n e =
       record {
         count = e;
         room = few;
         keysAre = written-whole maxPoints (keys (l′ .points)) (drop maxPoints (u .points)) (u′ .points) few-keys new-keys;
         statusesAre = written-whole maxPoints (statusesOf (l′ .points)) (drop maxPoints (u .statuses)) (u′ .statuses) few-statuses new-statuses;
         blocksAre = written-whole maxPoints (codes (blocksOf (l′ .points))) (drop maxPoints (u .blockers)) (u′ .blockers) few-blocks new-blocks;
-        pairsRoom = rw (d .pairsLong) room;
-        pairsAre = λ i j a b. d .pairsAre i j a b ∙ ap pairCode (same i j ∙ pairs-are cl order real i j);
+        pairsRoom = rw (d .filled .same) room;
+        pairsAre = λ i j a b. d .filled .pairs i j a b ∙ ap pairCode (pairs-are cl order real i j);
       }
 
   pub drawn-behind : drop maxCells (u′ .cells) ≡ drop maxCells (u .cells) → Behind u u′
@@ -79,6 +85,6 @@ module _ {t : Tests} {C : List ℕ} {ch : Batch} {ms : List Mark} {l l′ : Laye
         points = written-rest maxPoints (keys (l′ .points)) (drop maxPoints (u .points)) (u′ .points) few-keys new-keys;
         statuses = written-rest maxPoints (statusesOf (l′ .points)) (drop maxPoints (u .statuses)) (u′ .statuses) few-statuses new-statuses;
         blockers = written-rest maxPoints (codes (blocksOf (l′ .points))) (drop maxPoints (u .blockers)) (u′ .blockers) few-blocks new-blocks;
-        pairs = d .pairsBehind;
-        pairsLong = d .pairsLong;
+        pairs = d .filled .rest;
+        pairsLong = d .filled .same;
       }

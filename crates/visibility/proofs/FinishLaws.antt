@@ -28,7 +28,7 @@ use Rattle.visibility.specs.Update.{Finishing, Updating}
 use Rattle.visibility.specs.declared.map.Map.{Map}
 use Rattle.visibility.proofs.AcceptedLaws.{C′, M′, T, ch, closed, cs, few-altered, few-changes, few-corners, good, good-after, ms, next-cells, next-radius, next-size, same-shift, set}
 use Rattle.visibility.proofs.DrawnLaws.{Redraws, drawn-behind, drawn-holds}
-use Rattle.visibility.proofs.LayerLaws.{layer-blocks, layer-rooms}
+use Rattle.visibility.proofs.LayerLaws.{layer-blocks, layer-rooms, layer-rows}
 use Rattle.visibility.proofs.NamedLaws.{blocks-named, pairs-named}
 use Rattle.visibility.proofs.PadLaws.{copied}
 use Rattle.visibility.proofs.StoodLaws.{fitting, stood-keys, stood-length}
@@ -74,7 +74,7 @@ module _ {m : Map} {M : model.Map} {l : List model.Entry} {t : Tables} {turned s
         moodsAre = refl;
       }
 
-  drawing : Drawing (C′ M l) (ch M l) (S M l) (blocksOf (M .layer .points)) (edgeAt (M .layer)) turned says ks moods (t .points) (t .statuses) (t .blockers) (t .pairs) n (m .points)
+  drawing : Drawing (C′ M l) (ch M l) (S M l) (blocksOf (M .layer .points)) turned says ks moods (t .points) (t .statuses) (t .blockers) n (m .points)
   drawing =
       let held = u .holds .layer in
       let k = stood-length (ms M l) (M .layer .points) (M′ M l .layer .points) in
@@ -86,12 +86,9 @@ module _ {m : Map} {M : model.Map} {l : List model.Entry} {t : Tables} {turned s
         moodsAre = rw (same-shift M) (f .moodsAre);
         blocks = layer-blocks held;
         blocksNamed = blocks-named (good u);
-        pairsAre = held .pairsAre;
-        pairsNamed = pairs-named (good u);
         pointsRoom = layer-rooms held .0;
         statusesRoom = layer-rooms held .1;
         blockersRoom = layer-rooms held .2;
-        pairsRoom = held .pairsRoom;
       }
 
   -- ---- the cells w of the first places, of which `used` are used: the count that is cut down to the table's places
@@ -118,7 +115,7 @@ module _ {m : Map} {M : model.Map} {l : List model.Entry} {t : Tables} {turned s
           subst (λ (k : List ℕ). Redraws (M .size) (M .layer .radius) near k turned says ks moods n (m .points) t t′) (holds-cells D used (C′ M l) cells-held)
           (subst (λ (c : Float). Redraws c (M .layer .radius) near (take used D) turned says ks moods n (m .points) t t′) (u .holds .size)
           (subst (λ (r : Float). Redraws (m .size) r near (take used D) turned says ks moods n (m .points) t t′) (u .holds .radius) redraws))
-          (ch M l) (S M l) (blocksOf (M .layer .points)) (edgeAt (M .layer)) at drawing
+          (ch M l) (S M l) (blocksOf (M .layer .points)) (edgeAt (M .layer)) at drawing (pairs-named (good u)) (layer-rows (u .holds .layer))
 
       held : Holds (record { size = m .size; radius = m .radius; cells = used; points = n }) t′ (M′ M l)
       held =
@@ -126,7 +123,7 @@ module _ {m : Map} {M : model.Map} {l : List model.Entry} {t : Tables} {turned s
             size = u .holds .size ∙ sym (next-size M l);
             radius = u .holds .radius ∙ sym (next-radius M l);
             cells = rw (next-cells M l) cells-held;
-            layer = drawn-holds (closed u) (good u .pointOrder) (good u .real) (f .packed) t t′ redrawn (λ i j. refl) (u .holds .layer .pairsRoom) n (f .number);
+            layer = drawn-holds (closed u) (good u .pointOrder) (good u .real) (f .packed) t t′ redrawn (u .holds .layer .pairsRoom) n (f .number);
             good = good-after u;
           }
 

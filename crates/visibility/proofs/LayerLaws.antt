@@ -3,6 +3,7 @@ use Prim.Native.Nat.{ℕ, suc, _≤_}
 use mathlib.Core.Path.{_≡_, refl, sym, ap, _∙_}
 use mathlib.Core.List.{List, [], _∷_}
 use lib.ListN.{length, take}
+use borrow.Author.Tests.{le-ltb}
 use Rattle.marks.specs.Marked.{statusesOf}
 use Rattle.marks.proofs.BeginLaws.{statuses-length}
 use Rattle.model.specs.Layer.{Layer, Points}
@@ -11,7 +12,8 @@ use Rattle.model.specs.Maps.{keys}
 use Rattle.sight.specs.Blocked.{codes}
 use Rattle.sight.proofs.PointLaws.{codes-length}
 use Rattle.table.proofs.ListedLaws.{keys-length}
-use Rattle.visibility.specs.Layers.{HoldsLayer, blocksOf}
+use Rattle.visibility.specs.Layers.{HoldsLayer, blocksOf, edgeAt}
+use Rattle.visibility.specs.Redraw.{Below, InRows}
 use Rattle.visibility.proofs.PadLaws.{padded-room, padded-used}
 
 pub blocks-length : (ps : Points) → length (blocksOf ps) ≡ length ps
@@ -20,6 +22,10 @@ blocks-length (e ∷ ps) = ap suc (blocks-length ps)
 
 pub codes-count : (ps : Points) → length (codes (blocksOf ps)) ≡ length ps
 codes-count ps = codes-length (blocksOf ps) ∙ blocks-length ps
+
+pub edges-below : (l : Layer) → Below (length (l .points)) (edgeAt l)
+unfolding edgeAt
+edges-below l i j h = rw (le-ltb i (length (l .points)) h) refl
 
 module _ {points statuses blockers pairs : List ℕ} {n : ℕ} {l : Layer} (h : HoldsLayer points statuses blockers pairs n l) where
   -- no more points than there may be
@@ -34,6 +40,10 @@ module _ {points statuses blockers pairs : List ℕ} {n : ℕ} {l : Layer} (h : 
 
   pub layer-blocks : take n blockers ≡ codes (blocksOf (l .points))
   layer-blocks = padded-used maxPoints (codes (blocksOf (l .points))) blockers n (h .count ∙ sym (codes-count (l .points))) (h .blocksAre)
+
+  -- the pairs are in the rows of the points
+  pub layer-rows : InRows n (edgeAt l) pairs
+  layer-rows = record { room = h .pairsRoom; rows = layer-few; pairs = h .pairsAre; below = rw (h .count) (edges-below l) }
 
   -- each table has room for as many points as there may be
   pub layer-rooms : (maxPoints ≤ length points) × (maxPoints ≤ length statuses) × (maxPoints ≤ length blockers)

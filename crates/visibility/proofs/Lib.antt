@@ -3,6 +3,7 @@ pub mod AcceptedLaws
 pub mod BlockLaws
 pub mod BorderLaws
 pub mod ChangeLaws
+pub mod ClearLaws
 pub mod Determinate
 pub mod DrawnLaws
 pub mod FinishLaws
@@ -17,6 +18,7 @@ pub mod RadiusLaws
 pub mod RebuildLaws
 pub mod RedrawLaws
 pub mod RefuseLaws
+pub mod RowLaws
 pub mod RunLaws
 pub mod StoodLaws
 pub mod UpdateLaws

@@ -6,8 +6,7 @@ use mathlib.Core.Bool.{Bool, true, false, cond, _||_, true≢false}
 use mathlib.Core.List.{List, [], _∷_, _++_}
 use lib.Dec.{ltb}
 use lib.Ieee.{Float}
-use lib.ListN.{List·getD-append, drop, getD, getD-replicate, length, length-append, length-drop, length-replicate, replicate, take}
-use lib.Seq.{drop-at, length-take-le}
+use lib.ListN.{drop, length, replicate, take}
 use borrow.Author.Tests.{le-ltb, ltb-false}
 use Rattle.grid.proofs.FloorLaws.{holds-none}
 use Rattle.grid.proofs.RefuseLaws.{apart}
@@ -21,6 +20,7 @@ use Rattle.visibility.specs.Holds.{Tables, needs}
 use Rattle.visibility.specs.Layers.{HoldsLayer, edgeAt}
 use Rattle.visibility.specs.Open.{Opening, refusedWith}
 use Rattle.visibility.specs.declared.map.Outcome.{Outcome}
+use Rattle.visibility.proofs.ClearLaws.{cleared, cleared-at, cleared-behind, cleared-is, cleared-length, cleared-pad}
 
 -- ---- where no table is short, each has its need
 abbrev pub Enough : List (ℕ × ℕ) → Type 0
@@ -73,29 +73,7 @@ open-refused c r t n o e h =
     never : o .refusal ≡ 0 → ⊥
     never z = apart (sym number ∙ z)
 
--- ---- a table cleared up to its need
-abbrev cleared : ℕ → List ℕ → List ℕ
-cleared n t = replicate n 0 ++ drop n t
-
-cleared-is : (n : ℕ) (t u : List ℕ) → n ≤ length t → u ≡ replicate (length (take n t)) 0 → u ++ drop n t ≡ cleared n t
-cleared-is n t u h e = rw (e, length-take-le n t h) refl
-
-cleared-behind : (n : ℕ) (t : List ℕ) → drop n (cleared n t) ≡ drop n t
-cleared-behind n t = drop-at (replicate n 0) (drop n t) n (length-replicate {A = ℕ} n 0)
-
-cleared-length : (n : ℕ) (t : List ℕ) → n ≤ length t → length (cleared n t) ≡ length t
-cleared-length n t h = simp (length-append, length-replicate, length-drop) (omega arith)
-
--- zeros up to the need
-cleared-pad : (n : ℕ) (t : List ℕ) → cleared n t ≡ replicate n 0 ++ drop n (cleared n t)
-cleared-pad n t = ap (λ (u : List ℕ). replicate n 0 ++ u) (sym (cleared-behind n t))
-
-cleared-at : (n : ℕ) (t : List ℕ) (i : ℕ) → i < n → getD (cleared n t) i 0 ≡ 0
-cleared-at n t i h =
-    let z : List ℕ = replicate n 0 in
-    let l : i < length z = rw (length-replicate {A = ℕ} n 0) h in
-    List·getD-append z (drop n t) 0 i l ∙ getD-replicate n i 0 0 h
-
+-- ---- the pairs of an empty layer
 cleared-pairs : (r : Float) (t : List ℕ) → Pairs (edgeAt (emptyLayer r)) (cleared pairPlaces t)
 unfolding edgeAt
 cleared-pairs r t i j hi hj =

@@ -1,11 +1,9 @@
 -- A change of the radius: its refusals in their order, and the tables drawn from no old point, which hold the model's map afterwards. Assumes nothing.
-use Prim.Native.Nat.{ℕ, zero, suc, _≤_, _<_, zero-le}
+use Prim.Native.Nat.{ℕ, suc, _≤_, _<_, zero-le}
 use native.Mathlib.Omega.{arith}
 use mathlib.Core.Path.{_≡_, refl, sym, ap, _∙_, subst}
-use mathlib.Core.Bool.{Bool, true, false, cond, _&&_, _||_, true≢false}
+use mathlib.Core.Bool.{Bool, true, false, cond, _||_, true≢false}
 use mathlib.Core.List.{List, [], _∷_}
-use mathlib.Core.Option.{Option, none}
-use lib.Dec.{ltb}
 use lib.Ieee.{Float}
 use lib.ListN.{length, length-replicate, replicate, take}
 use borrow.Author.Tests.{le-ltb, lt-ltb, ltb-false}
@@ -14,13 +12,11 @@ use Rattle.grid.proofs.ApplyLaws.{inside-inner}
 use Rattle.grid.proofs.FloorLaws.{holds-cells}
 use Rattle.grid.proofs.RefuseLaws.{apart}
 use Rattle.marks.specs.Marked.{Marking}
-use Rattle.marks.specs.Standing.{Standing}
-use Rattle.model.specs.Batch.{Batch}
 use Rattle.model.specs.Cell.{reach}
 use Rattle.model.specs.ClosedForm.{Closed}
 use Rattle.model.specs.Corner.{Bits, anyBit, cornerCells}
 use Rattle.model.specs.Good.{Good, bitsIn}
-use Rattle.model.specs.Layer.{Layer, Mark, Points, Tests, marks, update}
+use Rattle.model.specs.Layer.{Layer, Tests, marks, update}
 use Rattle.model.specs.Limits.{maxCells, maxPoints, needCorners}
 use Rattle.model.specs.Map as model
 use Rattle.model.specs.Maps.{AscL, get, isSome, keys}
@@ -30,7 +26,6 @@ use Rattle.model.proofs.LayerLaws.{empty-inv}
 use Rattle.model.proofs.RunLaws.{passed}
 use Rattle.model.proofs.TestLaws.{lawful, tests-shift}
 use Rattle.sight.specs.Blocked.{Stood}
-use Rattle.sight.specs.Paired.{oldPair, pairAt, pairBetween, pairStart, pointAt}
 use Rattle.table.specs.Listed.{Listed}
 use Rattle.table.specs.Tables.{All, pad}
 use Rattle.table.proofs.AllLaws.{all-map}
@@ -43,13 +38,12 @@ use Rattle.visibility.specs.Redraw.{Drawing, Redrawn}
 use Rattle.visibility.specs.declared.map.Map.{Map}
 use Rattle.visibility.specs.declared.map.Outcome.{Outcome}
 use Rattle.visibility.proofs.BorderLaws.{corners-bordered, corners-length}
-use Rattle.visibility.proofs.DrawnLaws.{Redraws, drawn-behind, drawn-holds}
-use Rattle.visibility.proofs.LayerLaws.{layer-few}
+use Rattle.visibility.proofs.DrawnLaws.{Afresh, drawn-behind, drawn-holds}
+use Rattle.visibility.proofs.LayerLaws.{edges-below, layer-few, layer-rows}
 use Rattle.visibility.proofs.MarkLaws.{Marks, marked-count, marked-few, marked-keys, marked-many, marked-words, numbered-keys}
-use Rattle.visibility.proofs.NamedLaws.{pairs-named}
 use Rattle.visibility.proofs.OpenLaws.{Enough, long-enough}
 use Rattle.visibility.proofs.RefuseLaws.{inTurn, radius-turn, turn-none, turn-some}
-use Rattle.visibility.proofs.StoodLaws.{fitting, left-few, marking, stood-keys, stood-length}
+use Rattle.visibility.proofs.StoodLaws.{fitting, marking, stood-keys, stood-length}
 
 -- ---- the refusals in turn
 module _ (s : Bool) (m : Map) (r : Float) where
@@ -78,33 +72,6 @@ module _ (s : Bool) (m : Map) (r : Float) where
 
             pub radius-passes : m .points ≤ 64 → 0 ≡ refuseRadius s m r
             radius-passes w = sym (radius-turn s m r ∙ rw (e, f, g, h, le-ltb 1024 (m .cells) k, le-ltb 64 (m .points) w) refl)
-
--- ---- where no point has an old place, the old pairs do not count
-abbrev New : Stood → Type 0
-New [] = Unit {0}
-New (e ∷ S) = (e .1 .old ≡ 0) × New S
-
-new-at : (S : Stood) → New S → (i : ℕ) → pointAt S i .1 .old ≡ 0
-new-at [] n i = refl
-new-at (e ∷ S) n zero = n .0
-new-at (e ∷ S) n (suc i) = new-at S (n .1) i
-
-stood-new : (ms : List Mark) (l : Points) → New (stoodOf ms [] l)
-stood-new ms [] = tt
-stood-new ms (e ∷ l) = (let h = left-few ms [] tt (e .0) in omega arith, stood-new ms l)
-
-module _ (t : Tests) (C : List ℕ) (ch : Batch) (P Q : ℕ → ℕ → Option (Option ℕ)) where
-  between-new : (p q : ℕ) (w v : Standing) → w .old ≡ 0 → pairBetween t C ch P p w q v ≡ pairBetween t C ch Q p w q v
-  unfolding pairBetween pairStart oldPair
-  between-new p q w v e = rw e refl
-
-  pairs-new : (S : Stood) → New S → (i j : ℕ) → pairAt t C ch P S i j ≡ pairAt t C ch Q S i j
-  unfolding pairAt
-  pairs-new S n i j =
-      let p = pointAt S i in
-      let q = pointAt S j in
-      λ z. cond (ltb i j && ltb j (length S)) (between-new (p .0) (q .0) (p .1) (q .1) (new-at S n i) z)
-      (cond (ltb j i && ltb i (length S)) (between-new (q .0) (p .0) (q .1) (p .1) (new-at S n j) z) none)
 
 -- ---- what the input alone decides, and what the model says of a map that is held
 module _ (m : Map) (r : Float) (t : Tables) where
@@ -178,6 +145,10 @@ module _ (m : Map) (r : Float) (t : Tables) (pass : refuseRadius (short (needs t
   unfolding refuseRadius
   rebuild-cells = ltb-false maxCells (m .cells) (passed _ pass .cells)
 
+  pub rebuild-points : m .points ≤ maxPoints
+  unfolding refuseRadius
+  rebuild-points = ltb-false maxPoints (m .points) (passed _ pass .points)
+
   module _ {M : model.Map} (h : Holds m t M) where
     abbrev C : List ℕ
     C = M .cells
@@ -234,7 +205,7 @@ module _ (m : Map) (r : Float) (t : Tables) (pass : refuseRadius (short (needs t
         count = marked-count cs closed tt given marked room
 
         -- what the drawing is handed
-        drawing : Drawing C [] S [] (edgeAt (M .layer)) [] [] ks moods (t .points) (t .statuses) (t .blockers) (t .pairs) n 0
+        drawing : Drawing C [] S [] [] [] ks moods (t .points) (t .statuses) (t .blockers) n 0
         unfolding keys
         drawing =
             let long = stood-length (marks (T .shift) cs) [] (l′ .points) in
@@ -255,22 +226,19 @@ module _ (m : Map) (r : Float) (t : Tables) (pass : refuseRadius (short (needs t
               moodsAre = marked-words cs closed tt given marked room;
               blocks = refl;
               blocksNamed = tt;
-              pairsAre = h .layer .pairsAre;
-              pairsNamed = pairs-named (h .good);
               pointsRoom = rebuild-room .1 .0;
               statusesRoom = rebuild-room .1 .1 .0;
               blockersRoom = rebuild-room .1 .1 .1 .0;
-              pairsRoom = rebuild-room .1 .1 .1 .1 .0;
             }
 
-        module _ (t′ : Tables) {near : ℕ} (same : t′ .cells ≡ t .cells) (v : near ≡ reach shift) (d : Redraws (m .size) r near (take (m .cells) (t .cells)) [] [] ks moods n 0 t t′) where
-          drawn : Redrawn T C [] S [] (edgeAt (M .layer)) (t .points) (t′ .points) (t .statuses) (t′ .statuses) (t .blockers) (t′ .blockers) (t .pairs) (t′ .pairs)
-          drawn = subst (λ (u : List ℕ). Redraws (m .size) r near u [] [] ks moods n 0 t t′) same-cells d [] S [] (edgeAt (M .layer)) (v ∙ ap reach e) drawing
+        module _ (t′ : Tables) {near : ℕ} (same : t′ .cells ≡ t .cells) (v : near ≡ reach shift) (d : Afresh (m .size) r near (take (m .cells) (t .cells)) [] [] ks moods n (m .points) t t′) where
+          drawn : Redrawn T C [] S [] (edgeAt (model.emptyLayer r)) (t .points) (t′ .points) (t .statuses) (t′ .statuses) (t .blockers) (t′ .blockers) (t .pairs) (t′ .pairs)
+          drawn = subst (λ (u : List ℕ). Afresh (m .size) r near u [] [] ks moods n (m .points) t t′) same-cells d [] S (edgeAt (model.emptyLayer r)) (edgeAt (M .layer)) (v ∙ ap reach e) drawing (edges-below (model.emptyLayer r))
+              (layer-rows (h .layer))
 
           held : HoldsLayer (t′ .points) (t′ .statuses) (t′ .blockers) (t′ .pairs) n l′
           held =
-              drawn-holds closed tt real room t t′ drawn (pairs-new T C [] (edgeAt (M .layer)) (edgeAt (model.emptyLayer r)) S (stood-new (marks (T .shift) cs) (l′ .points)))
-              (rebuild-room .1 .1 .1 .1 .0) n count
+              drawn-holds closed tt real room t t′ drawn (rebuild-room .1 .1 .1 .1 .0) n count
 
           holds : Holds (record { size = m .size; radius = r; cells = m .cells; points = n }) t′ (model.next (model.radius r) M)
           unfolding model.next model.rebuilt update
@@ -296,7 +264,7 @@ module _ (m : Map) (r : Float) (t : Tables) (pass : refuseRadius (short (needs t
         (λ M h. judged-points m r t h pass true (lt-ltb maxPoints _ (many h f e g k)))
 
     -- else the tables drawn anew
-    pub rebuild-done : (t′ : Tables) (near : ℕ) → t′ .cells ≡ t .cells → n ≤ maxPoints → near ≡ reach shift → Redraws (m .size) r near (take (m .cells) (t .cells)) [] [] ks moods n 0 t t′
+    pub rebuild-done : (t′ : Tables) (near : ℕ) → t′ .cells ≡ t .cells → n ≤ maxPoints → near ≡ reach shift → Afresh (m .size) r near (take (m .cells) (t .cells)) [] [] ks moods n (m .points) t t′
         → Rebuilding m r t t′ (record { refusal = 0; map = record { size = m .size; radius = r; cells = m .cells; points = n } })
     rebuild-done t′ near same k v d =
         record {

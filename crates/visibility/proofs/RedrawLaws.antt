@@ -1,12 +1,11 @@
--- A layer's tables drawn anew, from what each step leaves. Assumes nothing.
+-- The tables of a layer's points drawn anew, from what each step leaves. Assumes nothing.
 use Prim.Native.Nat.{ℕ, zero, suc, _+_, _≤_, _<_, zero-le}
 use native.Mathlib.Nat.{le-of-suc-le-suc, not-suc-le-zero}
 use native.Mathlib.Omega.{arith}
 use mathlib.Core.Path.{_≡_, refl, sym, ap, _∙_}
 use mathlib.Core.List.{List, [], _∷_, _++_}
-use mathlib.Core.Option.{Option, none}
-use lib.ListN.{length, take, drop, getD, replicate, set, length-append, length-drop, length-set, length-replicate, getD-replicate, List·getD-append}
-use lib.Seq.{drop-at}
+use mathlib.Core.Option.{Option}
+use lib.ListN.{length, take, drop, getD, replicate, set, length-set}
 use Rattle.lists.proofs.Front.{mix, mix-done, mix-more}
 use Rattle.marks.specs.Standing.{Small, Standing, mood, word}
 use Rattle.marks.specs.declared.mood.Mood.{Mood}
@@ -16,14 +15,13 @@ use Rattle.model.specs.Layer.{Tests}
 use Rattle.model.specs.Limits.{maxPoints}
 use Rattle.model.specs.Maps.{keys}
 use Rattle.sight.specs.Blocked.{Fitting, Seeing, Stood, codes, pointBlocks, wordsOf}
-use Rattle.sight.specs.Paired.{Filled, Pairs, pairAt, pairPlace, pairPlaces}
 use Rattle.sight.proofs.BlockLaws.{fitting-at, words-at, words-length}
 use Rattle.sight.proofs.PointLaws.{codes-length}
 use Rattle.table.specs.Tables.{Copied, pad}
 use Rattle.table.proofs.ListedLaws.{keys-length}
 use Rattle.table.proofs.TableLaws.{pad-length, pad-take}
 use Rattle.visibility.specs.Layers.{numbersOf}
-use Rattle.visibility.specs.Redraw.{Drawing, Redrawn}
+use Rattle.visibility.specs.Redraw.{Drawing, Drawn}
 use Rattle.visibility.proofs.PadLaws.{copied, padded}
 
 -- ---- the statuses
@@ -68,18 +66,15 @@ module _ (moods out out′ : List ℕ) (i : ℕ) (room : length moods ≤ length
       let j : i ≡ length S = omega (arith, w .inside) in
       w .is S f e ∙ ap (mix (numbersOf S) out) j ∙ mix-done (numbersOf S) out (length S) (numbers-length S)
 
--- ---- the blockers and the pairs
+-- ---- the blockers
 blocks-length : (t : Tests) (C : List ℕ) (ch : Batch) (B : List (Option ℕ)) (S : Stood) → length (pointBlocks t C ch B S) ≡ length S
 unfolding pointBlocks
 blocks-length t C ch B [] = refl
 blocks-length t C ch B (e ∷ S) = ap suc (blocks-length t C ch B S)
 
-pub no-pairs : Pairs (λ i j. none) (replicate pairPlaces 0)
-no-pairs i j h k = getD-replicate pairPlaces (pairPlace i j) 0 0 (omega arith)
-
--- ---- the whole
-module _ (t : Tests) (C : List ℕ) (ch : Batch) (S : Stood) (B : List (Option ℕ)) (P : ℕ → ℕ → Option (Option ℕ)) (turned full ks moods points statuses blockers pairs : List ℕ) (n count : ℕ)
-    (d : Drawing C ch S B P turned full ks moods points statuses blockers pairs n count) where
+-- ---- the three tables of the points
+module _ (t : Tests) (C : List ℕ) (ch : Batch) (S : Stood) (B : List (Option ℕ)) (turned full ks moods points statuses blockers : List ℕ) (n count : ℕ)
+    (d : Drawing C ch S B turned full ks moods points statuses blockers n count) where
   front : take n ks ≡ keys S
   front =
       let e : n ≡ length (keys S) = d .number ∙ sym (keys-length S) in
@@ -97,36 +92,24 @@ module _ (t : Tests) (C : List ℕ) (ch : Batch) (S : Stood) (B : List (Option �
     moodsAre = d .moodsAre;
   }
 
-  module _ (bits blocks joined points′ statuses′ blockers′ pairs′ : List ℕ)
+  module _ (bits blocks points′ statuses′ blockers′ : List ℕ)
       (f : (S : Stood) → Fitting S → take n moods ≡ wordsOf S → bits ≡ numbersOf S ++ drop (length S) (replicate 64 0))
       (g : blocks ≡ codes (pointBlocks t C ch B S) ++ drop (length S) (replicate 64 0))
-      (h : Filled (pairAt t C ch P S) (replicate 4096 0) joined)
-      (a : Copied ks points points′) (b : Copied bits statuses statuses′) (e : Copied blocks blockers blockers′) (o : Copied joined pairs pairs′) where
+      (a : Copied ks points points′) (b : Copied bits statuses statuses′) (e : Copied blocks blockers blockers′) where
     bits-are : bits ≡ pad maxPoints (numbersOf S)
     bits-are = f S (d .seeing .fitting) (d .moodsAre) ∙ padded (numbersOf S) (length S) maxPoints (numbers-length S)
 
     blocks-are : blocks ≡ pad maxPoints (codes (pointBlocks t C ch B S))
     blocks-are = g ∙ padded (codes (pointBlocks t C ch B S)) (length S) maxPoints (codes-length (pointBlocks t C ch B S) ∙ blocks-length t C ch B S)
 
-    whole : length joined ≡ pairPlaces
-    whole = h .same ∙ length-replicate {A = ℕ} 4096 0
-
-    pairs-is : pairs′ ≡ joined ++ drop pairPlaces pairs
-    pairs-is = copied joined joined pairs pairs′ pairPlaces refl whole (d .pairsRoom) o
-
     store : (l u u′ v : List ℕ) → u ≡ pad maxPoints l → length l ≤ maxPoints → maxPoints ≤ length v → Copied u v u′ → u′ ≡ pad maxPoints l ++ drop maxPoints v
     store l u u′ v q few room = copied u (pad maxPoints l) v u′ maxPoints q (pad-length maxPoints l few) room
 
-    pub redrawn : Redrawn t C ch S B P points points′ statuses statuses′ blockers blockers′ pairs pairs′
-    redrawn =
+    pub drawn : Drawn t C ch S B points points′ statuses statuses′ blockers blockers′
+    drawn =
         let few = d .few in
         record {
           keysAre = store (keys S) ks points′ points (d .keysAre) (rw (keys-length S) few) (d .pointsRoom) a;
           statusesAre = store (numbersOf S) bits statuses′ statuses bits-are (rw (numbers-length S) few) (d .statusesRoom) b;
           blocksAre = store (codes (pointBlocks t C ch B S)) blocks blockers′ blockers blocks-are (rw (codes-length (pointBlocks t C ch B S), blocks-length t C ch B S) few) (d .blockersRoom) e;
-          pairsAre = λ i j x y.
-              let z : pairPlace i j < length joined = rw whole (omega arith) in
-              ap (λ (u : List ℕ). getD u (pairPlace i j) 0) pairs-is ∙ List·getD-append joined (drop pairPlaces pairs) 0 (pairPlace i j) z ∙ h .pairs i j x y;
-          pairsBehind = ap (drop pairPlaces) pairs-is ∙ drop-at joined (drop pairPlaces pairs) pairPlaces whole;
-          pairsLong = ap length pairs-is ∙ simp (length-append, length-drop, whole) (let r = d .pairsRoom in omega arith);
         }

@@ -3,7 +3,7 @@ use crate::judge::bad_radius;
 use crate::judge::reach_of;
 use crate::judge::shift_of;
 use crate::judge::short_tables;
-use crate::layer::redraw;
+use crate::layer::draw_afresh;
 use crate::map::Map;
 use crate::map::Outcome;
 use crate::map::refused;
@@ -82,7 +82,7 @@ pub fn change_radius(
     if 64 < m {
         return refused(7);
     }
-    redraw(
+    draw_afresh(
         map.size,
         radius,
         reach_of(shift),
@@ -92,7 +92,7 @@ pub fn change_radius(
         &keys[..],
         &moods[..],
         m,
-        0,
+        map.points,
         points,
         statuses,
         blockers,

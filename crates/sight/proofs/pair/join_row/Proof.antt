@@ -16,7 +16,7 @@ abbrev μ-loop : tie.MeasureT-loop
 -- what is required
 asked : (c : tie.After-slice-known Inv-loop μ-loop)
     → let a = c .before .before .before .before .before .before .before .args in
-    (length (a .points .now) ≤ length (a .moods .now)) × (length (a .points .now) ≤ 64) × (a .i < length (a .points .now)) × (4096 ≤ length (a .out .now))
+    (length (a .points .now) ≤ length (a .moods .now)) × (length (a .points .now) ≤ 64) × (a .i < length (a .points .now)) × (64 * length (a .points .now) ≤ length (a .out .now))
 asked c = let p = c .before .before .before .before .before .before .before .pre in (p .1, p .2, p .3, p .4)
 
 mul-p : tie.Need-mul-p Inv-loop μ-loop
@@ -50,7 +50,7 @@ at c = c .before .before .before .before .before
 
 within : (c : tie.In-loop Inv-loop μ-loop)
     → let a = at c .before .before .before .before .before .before .before .args in
-    (a .i < c .before .loop .j) × (c .before .loop .j < length (a .points .now)) × (length (a .points .now) ≤ length (a .moods .now)) × (length (a .points .now) ≤ 64) × (4096 ≤ length (c .before .loop .out))
+    (a .i < c .before .loop .j) × (c .before .loop .j < length (a .points .now)) × (length (a .points .now) ≤ length (a .moods .now)) × (length (a .points .now) ≤ 64) × (64 * length (a .points .now) ≤ length (c .before .loop .out))
 within c = let k = asked (at c) in let v = c .before .loop .inv in (v .above, c .loop-test .taken, k .0, k .1, rw (v .same) (k .3))
 
 mul-of-word-2 : tie.Need-mul-of-word-2 Inv-loop μ-loop
@@ -124,12 +124,12 @@ same-length : tie.Need-same-length Inv-loop μ-loop
 same-length c = c .before .loop .inv .same
 
 returns : tie.Need-returns Inv-loop μ-loop
-returns c = λ ch S P seeing near pairs named room s.
+returns c = λ ch S P seeing near pairs named s.
     let g = c .before .loop in
     let m = c .before .before .before .before .before in
     let a = m .before .before .before .before .before .before .before .args in
     row-end (a .size) (a .radius) (a .reach) (a .cells .now) (a .turned .now) (a .full .now) (a .points .now) (a .moods .now) (a .old .now) (a .i) (g .j) (a .out .now) (g .out) (g .inv) (c .loop-test .left) (asked m .1) ch S P
-    (record { seeing = seeing; near = near; pairs = pairs; named = named; room = room }) s
+    (record { seeing = seeing; near = near; pairs = pairs; named = named }) s
 
 pub join-row-spec : {M : Type 1} → statement M
 join-row-spec =

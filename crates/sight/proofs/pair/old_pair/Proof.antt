@@ -4,13 +4,14 @@ use native.Mathlib.Omega.{arith}
 use mathlib.Core.Path.{sym, _∙_}
 use mathlib.Core.Logic.{⊎-elim}
 use borrow.Author.Needs.{needs}
+use lib.ListN.{List·getD-eq-default}
 use borrow.Author.Tests.{eqb-false, eqb-true, ltb-false, ltb-true}
 use Rattle.sight.proofs.PairLaws.{old-at, old-left, old-right}
 use Rattle.sight.proofs.pair.old_pair.Statement.{statement}
 use Rattle.sight.proofs.pair.old_pair.Tie as tie
 
 returns : tie.Need-returns
-returns c = λ P w v s r e f x y.
+returns c = λ P w v s e f x y.
     let a = c .before .args in
     ⊎-elim (λ t. old-left P w v (sym e ∙ t .taken))
     (⊎-elim (λ t. old-right P w v (λ z. t .0 .left (e ∙ z)) (sym f ∙ eqb-true (a .b) 0 (t .1 .taken)))
@@ -43,13 +44,17 @@ shared-slice-read-result : tie.Need-shared-slice-read-result
 shared-slice-read-result c = search needs
 
 returns-2 : tie.Need-returns-2
-returns-2 c = λ P w v s r e f x y.
+returns-2 c = λ P w v s e f x y.
     let n = c .before .before in
     let a = n .before .before .before .before .args in
     old-at P w v (a .old .now) (a .a) (a .b) s e f (n .before .before .before .if1 .left) (eqb-false (a .b) 0 (n .before .before .if2 .left)) x y
 
 returns-3 : tie.Need-returns-3
-returns-3 c = search needs
+returns-3 c = λ P w v s e f x y.
+    let n = c .before in
+    let a = n .before .before .before .before .args in
+    sym (List·getD-eq-default (a .old .now) 0 (c .if5 .left))
+    ∙ old-at P w v (a .old .now) (a .a) (a .b) s e f (n .before .before .before .if1 .left) (eqb-false (a .b) 0 (n .before .before .if2 .left)) x y
 
 pub old-pair-spec : {M : Type 1} → statement M
 old-pair-spec =

@@ -20,7 +20,7 @@ sees-requires : tie.Need-sees-requires
 sees-requires c κs = search needs
 
 returns : tie.Need-returns
-returns c = λ ch P w v order inside changes turnedAre fullAre near pairs named room e f x y.
+returns c = λ ch P w v order inside changes turnedAre fullAre near pairs named e f x y.
     let a = c .before .before .before .before .before .before .args in
     between-hidden (a .size) (a .radius) (a .cells .now) ch P (a .p) w (a .q) v (sym (fore (c .before) v f) ∙ not-true _ (c .if1 .taken))
 
@@ -28,7 +28,7 @@ sees-requires-2 : tie.Need-sees-requires-2
 sees-requires-2 c κs = search needs
 
 returns-2 : tie.Need-returns-2
-returns-2 c = λ ch P w v order inside changes turnedAre fullAre near pairs named room e f x y.
+returns-2 c = λ ch P w v order inside changes turnedAre fullAre near pairs named e f x y.
     let s = c .before .before in
     let a = s .before .before .before .before .before .before .args in
     between-hiding (a .size) (a .radius) (a .cells .now) ch P (a .p) w (a .q) v (sym (fore (s .before) v f) ∙ not-false _ (s .if1 .left)) (sym (back (c .before) w e) ∙ not-true _ (c .if2 .taken))
@@ -40,23 +40,23 @@ run-pair-requires : tie.Need-run-pair-requires
 run-pair-requires c κs = search needs
 
 returns-3 : tie.Need-returns-3
-returns-3 c = λ ch P w v order inside changes turnedAre fullAre near pairs named room e f x y.
+returns-3 c = λ ch P w v order inside changes turnedAre fullAre near pairs named e f x y.
     let u = c .before in
     let n = u .before .before in
     let s = n .before .before in
     let a = s .before .before .before .before .before .before .args in
     between-open (a .size) (a .radius) (a .cells .now) ch P (a .p) w (a .q) v (sym (fore (s .before) v f) ∙ not-false _ (s .if1 .left)) (sym (back (n .before) w e) ∙ not-false _ (n .if2 .left)) (u .run-pair .result)
-    (u .run-pair .ensures ch _ order inside changes turnedAre fullAre near (u .before .start-pair .ensures P w v order inside pairs named room e f x y) (start-named (a .size) (a .radius) (a .cells .now) P (a .p) w (a .q) v inside named))
+    (u .run-pair .ensures ch _ order inside changes turnedAre fullAre near (u .before .start-pair .ensures P w v order inside pairs named e f x y) (start-named (a .size) (a .radius) (a .cells .now) P (a .p) w (a .q) v inside named))
     inside changes named (c .if3 .taken)
 
 returns-4 : tie.Need-returns-4
-returns-4 c = λ ch P w v order inside changes turnedAre fullAre near pairs named room e f x y.
+returns-4 c = λ ch P w v order inside changes turnedAre fullAre near pairs named e f x y.
     let u = c .before in
     let n = u .before .before in
     let s = n .before .before in
     let a = s .before .before .before .before .before .before .args in
     between-blocked (a .size) (a .radius) (a .cells .now) ch P (a .p) w (a .q) v (sym (fore (s .before) v f) ∙ not-false _ (s .if1 .left)) (sym (back (n .before) w e) ∙ not-false _ (n .if2 .left)) (u .run-pair .result)
-    (u .run-pair .ensures ch _ order inside changes turnedAre fullAre near (u .before .start-pair .ensures P w v order inside pairs named room e f x y) (start-named (a .size) (a .radius) (a .cells .now) P (a .p) w (a .q) v inside named))
+    (u .run-pair .ensures ch _ order inside changes turnedAre fullAre near (u .before .start-pair .ensures P w v order inside pairs named e f x y) (start-named (a .size) (a .radius) (a .cells .now) P (a .p) w (a .q) v inside named))
     (c .if3 .left)
 
 pub pair-between-spec : {M : Type 1} → statement M

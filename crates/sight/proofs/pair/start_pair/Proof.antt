@@ -5,13 +5,12 @@ use mathlib.Core.Path.{_≡_, sym, ap, _∙_}
 use mathlib.Core.Bool.{Bool, true, false}
 use mathlib.Core.Option.{Option}
 use borrow.Author.Needs.{needs}
-use lib.ListN.{length}
 use Rattle.marks.specs.Standing.{Standing, mood, sooner}
 use Rattle.marks.specs.declared.mood.Mood.{Mood}
 use Rattle.model.specs.Limits.{maxPoints}
 use Rattle.model.specs.Map.{tests}
 use Rattle.sight.specs.Codes.{pairCode}
-use Rattle.sight.specs.Paired.{Pairs, oldPair, pairPlaces}
+use Rattle.sight.specs.Paired.{Pairs, oldPair}
 use Rattle.sight.proofs.PairLaws.{start-held, start-new, start-open}
 use Rattle.sight.proofs.pair.start_pair.Statement.{statement}
 use Rattle.sight.proofs.pair.start_pair.Tie as tie
@@ -22,24 +21,24 @@ old-pair-requires c κs = search needs
 -- the number is the old pair's
 held : (c : tie.After-old-pair)
     → let a = c .before .before .before .args in
-    (P : ℕ → ℕ → Option (Option ℕ)) (w v : Standing) → Pairs P (a .old .now) → pairPlaces ≤ length (a .old .now) → a .was ≡ mood w → a .other ≡ mood v → w .old ≤ maxPoints → v .old ≤ maxPoints
+    (P : ℕ → ℕ → Option (Option ℕ)) (w v : Standing) → Pairs P (a .old .now) → a .was ≡ mood w → a .other ≡ mood v → w .old ≤ maxPoints → v .old ≤ maxPoints
     → c .old-pair .result ≡ pairCode (oldPair P w v)
-held c P w v s r e f x y =
+held c P w v s e f x y =
     let a = c .before .before .before .args in
     let g : a .was .old ≡ w .old = ap (λ (m : Mood). m .old) e in
     let h : a .other .old ≡ v .old = ap (λ (m : Mood). m .old) f in
-    c .old-pair .ensures P w v s r g h (omega (arith, g, x)) (omega (arith, h, y))
+    c .old-pair .ensures P w v s g h (omega (arith, g, x)) (omega (arith, h, y))
 
 returns : tie.Need-returns
-returns c = λ P w v o i s n r e f x y.
+returns c = λ P w v o i s n e f x y.
     let a = c .before .before .before .before .args in
-    start-open (tests (a .size) (a .radius)) (a .cells .now) P (a .p) w (a .q) v (c .before .old-pair .result) (held (c .before) P w v s r e f x y) n (c .if1 .taken)
+    start-open (tests (a .size) (a .radius)) (a .cells .now) P (a .p) w (a .q) v (c .before .old-pair .result) (held (c .before) P w v s e f x y) n (c .if1 .taken)
 
 returns-2 : tie.Need-returns-2
-returns-2 c = λ P w v o i s n r e f x y.
+returns-2 c = λ P w v o i s n e f x y.
     let h = c .before .before in
     let a = h .before .before .before .args in
-    start-held (tests (a .size) (a .radius)) (a .cells .now) P (a .p) w (a .q) v (h .old-pair .result) (held h P w v s r e f x y) (c .if2 .taken) (c .before .if1 .left)
+    start-held (tests (a .size) (a .radius)) (a .cells .now) P (a .p) w (a .q) v (h .old-pair .result) (held h P w v s e f x y) (c .if2 .taken) (c .before .if1 .left)
 
 is-sooner-requires : tie.Need-is-sooner-requires
 is-sooner-requires c κs = search needs
@@ -58,23 +57,23 @@ queued c b w v e f h =
     ap (λ (n : ℕ). sooner n (v .first)) (sym g) ∙ ap (sooner (a .was .first)) (sym k) ∙ sym (c .is-sooner .ensures) ∙ h
 
 returns-3 : tie.Need-returns-3
-returns-3 c = λ P w v o i s n r e f x y.
+returns-3 c = λ P w v o i s n e f x y.
     let q = c .before .before in
     let h = q .before .before .before in
     let a = h .before .before .before .args in
     c .sweep-between .ensures o i
-    ∙ start-new (tests (a .size) (a .radius)) (a .cells .now) P (a .p) w (a .q) v (h .old-pair .result) (held h P w v s r e f x y) n (q .before .if2 .left) true (queued q true w v e f (c .before .if3 .taken))
+    ∙ start-new (tests (a .size) (a .radius)) (a .cells .now) P (a .p) w (a .q) v (h .old-pair .result) (held h P w v s e f x y) n (q .before .if2 .left) true (queued q true w v e f (c .before .if3 .taken))
 
 sweep-between-requires-2 : tie.Need-sweep-between-requires-2
 sweep-between-requires-2 c κs = search needs
 
 returns-4 : tie.Need-returns-4
-returns-4 c = λ P w v o i s n r e f x y.
+returns-4 c = λ P w v o i s n e f x y.
     let q = c .before .before in
     let h = q .before .before .before in
     let a = h .before .before .before .args in
     c .sweep-between2 .ensures o i
-    ∙ start-new (tests (a .size) (a .radius)) (a .cells .now) P (a .p) w (a .q) v (h .old-pair .result) (held h P w v s r e f x y) n (q .before .if2 .left) false (queued q false w v e f (c .before .if3 .left))
+    ∙ start-new (tests (a .size) (a .radius)) (a .cells .now) P (a .p) w (a .q) v (h .old-pair .result) (held h P w v s e f x y) n (q .before .if2 .left) false (queued q false w v e f (c .before .if3 .left))
 
 pub start-pair-spec : {M : Type 1} → statement M
 start-pair-spec =

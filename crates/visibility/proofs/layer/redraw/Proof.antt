@@ -1,94 +1,34 @@
--- `layer::redraw`: the new statuses, blockers and pairs are worked out, and then stored. Assumes nothing.
+-- `layer::redraw`: the points, and then their pairs. Assumes nothing.
 use native.Mathlib.Omega.{arith}
-use mathlib.Core.Path.{_≡_, sym}
-use mathlib.Core.List.{List}
-use Prim.Native.Nat.{ℕ, _≤_}
-use lib.ListN.{length, take, length-replicate}
+use mathlib.Core.Path.{sym}
 use lib.Seq.{length-take-le}
-use borrow.Author.Needs.{needs}
 use Rattle.model.specs.Map.{tests}
-use Rattle.visibility.proofs.RedrawLaws.{no-pairs, redrawn, seen}
+use Rattle.visibility.proofs.RedrawLaws.{seen}
+use borrow.Author.Needs.{needs}
 use Rattle.visibility.proofs.layer.redraw.Statement.{statement}
 use Rattle.visibility.proofs.layer.redraw.Tie as tie
 
--- the places: the start, the statuses, the blockers, the pairs
-abbrev start : tie.After-slice-known4 → tie.Start
-start p = p .before .before .before .before .before .before .before .before .before
+-- the places: the start, the points
+abbrev start : tie.After-draw-points → tie.Start
+start p = p .before .before .before .before .before .before .before .before .before .before .before .before .before
 
-abbrev first : tie.After-bits2 → tie.After-slice-known4
-first p = p .before .before .before .before
+abbrev drawn : tie.After-slice-known7 → tie.After-draw-points
+drawn p = p .before .before .before .before .before .before
 
-abbrev second : tie.After-blocks3 → tie.After-bits2
-second p = p .before .before .before .before .before .before
+draw-points-requires : tie.Need-draw-points-requires
+draw-points-requires c κs = search needs
 
-abbrev third : tie.After-joined2 → tie.After-blocks3
-third p = p .before .before .before .before .before .before
+slice-aggregate-redraw-pairs : tie.Need-slice-aggregate-redraw-pairs
+slice-aggregate-redraw-pairs c = let s = start (drawn (c .before)) in sym (length-take-le (s .args .n) (s .args .ks .now) (omega (arith, s .pre)))
 
-fits : (n : ℕ) (l : List ℕ) → n ≤ length l → n ≡ length (take n l)
-fits n l h = sym (length-take-le n l h)
+slice-aggregate-redraw-pairs-2 : tie.Need-slice-aggregate-redraw-pairs-2
+slice-aggregate-redraw-pairs-2 c = let s = start (drawn (c .before .before)) in sym (length-take-le (s .args .n) (s .args .moods .now) (omega (arith, s .pre)))
 
-slice-aggregate-write-statuses : tie.Need-slice-aggregate-write-statuses
-slice-aggregate-write-statuses c = let s = start (c .before) in fits (s .args .n) (s .args .moods .now) (omega (arith, s .pre))
-
-slice-aggregate-write-statuses-2 : tie.Need-slice-aggregate-write-statuses-2
-slice-aggregate-write-statuses-2 c = search needs
-
-write-statuses-requires : tie.Need-write-statuses-requires
-write-statuses-requires c κs =
-    let s = start (c .before .before) in
-    let e = fits (s .args .n) (s .args .moods .now) (omega (arith, s .pre)) in
+redraw-pairs-requires : tie.Need-redraw-pairs-requires
+redraw-pairs-requires c κs =
+    let s = start (drawn (c .before .before .before)) in
+    let e = length-take-le (s .args .n) (s .args .ks .now) (omega (arith, s .pre)) in
     omega (arith, s .pre, e)
-
-slice-aggregate-block-points : tie.Need-slice-aggregate-block-points
-slice-aggregate-block-points c = let s = start (first (c .before)) in fits (s .args .n) (s .args .ks .now) (omega (arith, s .pre))
-
-slice-aggregate-block-points-2 : tie.Need-slice-aggregate-block-points-2
-slice-aggregate-block-points-2 c = let s = start (first (c .before .before)) in fits (s .args .n) (s .args .moods .now) (omega (arith, s .pre))
-
-slice-reshare-prefix-block-points : tie.Need-slice-reshare-prefix-block-points
-slice-reshare-prefix-block-points c = search needs
-
-slice-aggregate-block-points-3 : tie.Need-slice-aggregate-block-points-3
-slice-aggregate-block-points-3 c = let s = start (first (c .before .before .before)) in fits (s .args .count) (s .args .blockers .now) (s .pre .3)
-
-slice-aggregate-block-points-4 : tie.Need-slice-aggregate-block-points-4
-slice-aggregate-block-points-4 c = search needs
-
-block-points-requires : tie.Need-block-points-requires
-block-points-requires c κs = search needs
-
-slice-aggregate-join-pairs : tie.Need-slice-aggregate-join-pairs
-slice-aggregate-join-pairs c = let s = start (first (second (c .before))) in fits (s .args .n) (s .args .ks .now) (omega (arith, s .pre))
-
-slice-aggregate-join-pairs-2 : tie.Need-slice-aggregate-join-pairs-2
-slice-aggregate-join-pairs-2 c = let s = start (first (second (c .before .before))) in fits (s .args .n) (s .args .moods .now) (omega (arith, s .pre))
-
-slice-aggregate-join-pairs-3 : tie.Need-slice-aggregate-join-pairs-3
-slice-aggregate-join-pairs-3 c = search needs
-
-join-pairs-requires : tie.Need-join-pairs-requires
-join-pairs-requires c κs = search needs
-
-copy-requires : tie.Need-copy-requires
-copy-requires c κs = search needs
-
-slice-aggregate-copy-bytes : tie.Need-slice-aggregate-copy-bytes
-slice-aggregate-copy-bytes c = search needs
-
-copy-bytes-requires : tie.Need-copy-bytes-requires
-copy-bytes-requires c κs = search needs
-
-slice-aggregate-copy : tie.Need-slice-aggregate-copy
-slice-aggregate-copy c = search needs
-
-copy-requires-2 : tie.Need-copy-requires-2
-copy-requires-2 c κs = search needs
-
-slice-aggregate-copy-2 : tie.Need-slice-aggregate-copy-2
-slice-aggregate-copy-2 c = search needs
-
-copy-requires-3 : tie.Need-copy-requires-3
-copy-requires-3 c κs = search needs
 
 same-length : tie.Need-same-length
 same-length c = search needs
@@ -104,47 +44,21 @@ same-length-4 c = search needs
 
 returns : tie.Need-returns
 returns c =
-    let w3 = c .before .before in
-    let w2 = w3 .before .before .before .before .before in
-    let w1 = w2 .before .before .before .before .before in
-    let w0 = w1 .before .before .before .before .before in
-    let j = w0 .before .before .before in
-    let b = third (w0 .before .before) .before in
-    let f = second (third (w0 .before .before)) .before in
-    let s = start (first (second (third (w0 .before .before)))) in
-    let a = s .args in
-    λ ch S B P near d.
-    let t = tests (a .size) (a .radius) in
-    let v = seen t (a .cells .now) ch S B P (a .turned .now) (a .full .now) (a .ks .now) (a .moods .now) (a .points .now) (a .statuses .now) (a .blockers .now) (a .pairs .now) (a .n) (a .count) d in
-    redrawn t (a .cells .now) ch S B P (a .turned .now) (a .full .now) (a .ks .now) (a .moods .now) (a .points .now) (a .statuses .now) (a .blockers .now) (a .pairs .now) (a .n) (a .count) d
-    (f .write-statuses .last .1 .0) (b .block-points .last .1 .1 .1 .1 .1 .1 .1 .1 .1 .0) (j .join-pairs .last .1 .1 .1 .1 .1 .1 .1 .1 .0) (w0 .copy .last .1 .0) (w1 .copy-bytes .last .1 .0) (w2 .copy2 .last .1 .0) (w3 .copy3 .last .1 .0)
-    (f .write-statuses .ensures) (b .block-points .ensures ch S B v near (d .blocks) (d .blocksNamed) (rw (length-replicate {A = ℕ} 64 0) (d .few))) (j .join-pairs .ensures ch S P v (d .pairsAre) (d .pairsNamed) (d .pairsRoom) (rw (length-replicate {A = ℕ} 4096 0) (omega arith)) (d .few) no-pairs)
-    (w0 .copy .ensures) (w1 .copy-bytes .ensures) (w2 .copy2 .ensures) (w3 .copy3 .ensures)
+    let p = c .before .before in
+    let d = drawn (p .before .before .before .before) in
+    let a = start d .args in
+    λ ch S B P near w named rows.
+    let v = seen (tests (a .size) (a .radius)) (a .cells .now) ch S B (a .turned .now) (a .full .now) (a .ks .now) (a .moods .now) (a .points .now) (a .statuses .now) (a .blockers .now) (a .n) (a .count) w in
+    record { drawn = d .draw-points .ensures ch S B near w; filled = p .redraw-pairs .ensures ch S P v named rows }
 
 pub redraw-spec : {M : Type 1} → statement M
 redraw-spec =
     tie.close
     (tie.spec
-    slice-aggregate-write-statuses
-    slice-aggregate-write-statuses-2
-    write-statuses-requires
-    slice-aggregate-block-points
-    slice-aggregate-block-points-2
-    slice-reshare-prefix-block-points
-    slice-aggregate-block-points-3
-    slice-aggregate-block-points-4
-    block-points-requires
-    slice-aggregate-join-pairs
-    slice-aggregate-join-pairs-2
-    slice-aggregate-join-pairs-3
-    join-pairs-requires
-    copy-requires
-    slice-aggregate-copy-bytes
-    copy-bytes-requires
-    slice-aggregate-copy
-    copy-requires-2
-    slice-aggregate-copy-2
-    copy-requires-3
+    draw-points-requires
+    slice-aggregate-redraw-pairs
+    slice-aggregate-redraw-pairs-2
+    redraw-pairs-requires
     same-length
     same-length-2
     same-length-3

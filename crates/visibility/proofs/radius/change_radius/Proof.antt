@@ -9,7 +9,7 @@ use Rattle.model.specs.Refusal.{short}
 use Rattle.visibility.specs.Holds.{Tables}
 use Rattle.visibility.specs.Holds as tables
 use Rattle.visibility.specs.Radius.{refuseRadius}
-use Rattle.visibility.proofs.RebuildLaws.{rebuild-cells, rebuild-done, rebuild-input, rebuild-packed, rebuild-room}
+use Rattle.visibility.proofs.RebuildLaws.{rebuild-cells, rebuild-done, rebuild-input, rebuild-packed, rebuild-points, rebuild-room}
 use Rattle.visibility.proofs.radius.change_radius.Statement.{statement}
 use Rattle.visibility.proofs.radius.change_radius.Tie as tie
 
@@ -140,29 +140,43 @@ returns-2 c =
 reach-of-requires : tie.Need-reach-of-requires
 reach-of-requires c κs = search needs
 
-slice-aggregate-redraw : tie.Need-slice-aggregate-redraw
-slice-aggregate-redraw c = sym (used (entry (cornered (marked (c .before)))))
+slice-aggregate-draw-afresh : tie.Need-slice-aggregate-draw-afresh
+slice-aggregate-draw-afresh c = sym (used (entry (cornered (marked (c .before)))))
 
 array-share-prefix-corners-2 : tie.Need-array-share-prefix-corners-2
 array-share-prefix-corners-2 c = search needs
 
-slice-aggregate-redraw-2 : tie.Need-slice-aggregate-redraw-2
-slice-aggregate-redraw-2 c = search needs
+slice-aggregate-draw-afresh-2 : tie.Need-slice-aggregate-draw-afresh-2
+slice-aggregate-draw-afresh-2 c = search needs
 
 array-share-prefix-bits-2 : tie.Need-array-share-prefix-bits-2
 array-share-prefix-bits-2 c = search needs
 
-slice-aggregate-redraw-3 : tie.Need-slice-aggregate-redraw-3
-slice-aggregate-redraw-3 c = search needs
+slice-aggregate-draw-afresh-3 : tie.Need-slice-aggregate-draw-afresh-3
+slice-aggregate-draw-afresh-3 c = search needs
 
-slice-aggregate-redraw-4 : tie.Need-slice-aggregate-redraw-4
-slice-aggregate-redraw-4 c = search needs
+slice-aggregate-draw-afresh-4 : tie.Need-slice-aggregate-draw-afresh-4
+slice-aggregate-draw-afresh-4 c = search needs
 
-slice-aggregate-redraw-5 : tie.Need-slice-aggregate-redraw-5
-slice-aggregate-redraw-5 c = search needs
+slice-aggregate-draw-afresh-5 : tie.Need-slice-aggregate-draw-afresh-5
+slice-aggregate-draw-afresh-5 c = search needs
 
-redraw-requires : tie.Need-redraw-requires
-redraw-requires c κs = search needs
+draw-afresh-requires : tie.Need-draw-afresh-requires
+draw-afresh-requires c κs =
+    let n = c .before .before .before .before .before .before .before .before .before in
+    let m = marked n in
+    let e = entry (cornered m) in
+    let s = start (e .before) in
+    let list = m .mark-points .last .1 .1 .1 .1 .1 in
+    let kept = m .mark-points .kept .1 .1 .1 .1 .1 in
+    let keys : length (list .0) ≡ 64 = kept .0 in
+    let moods : length (list .1 .0) ≡ 64 = kept .1 .0 in (
+      n .before .if2 .left,
+      rebuild-points (s .args .map) (s .args .radius) (lent s) (passes e),
+      omega (arith, keys),
+      omega (arith, moods),
+      rebuild-room (s .args .map) (s .args .radius) (lent s) (passes e) .1 .1 .1 .1 .0,
+    )
 
 same-length-3 : tie.Need-same-length-3
 same-length-3 c = search needs
@@ -183,9 +197,9 @@ returns-3 c =
     let m = marked n in
     let k = cornered m in
     let s = start (entry k .before) in
-    let z = d .redraw .last .1 .1 .1 .1 .1 .1 .1 .1 .1 .1 in
+    let z = d .draw-afresh .last .1 .1 .1 .1 .1 .1 .1 .1 .1 .1 in
     rebuild-done (s .args .map) (s .args .radius) (lent s) (passes (entry k)) (k .corner-cells .ensures .0) (shifted m .shift-of .ensures) (m .mark-points .ensures)
-    (record { cells = s .args .cells .now; points = z .0; statuses = z .1 .0; blockers = z .1 .1 .0; pairs = z .1 .1 .1 .0 }) (n .reach-of .result) refl (n .before .if2 .left) (n .reach-of .ensures) (d .redraw .ensures)
+    (record { cells = s .args .cells .now; points = z .0; statuses = z .1 .0; blockers = z .1 .1 .0; pairs = z .1 .1 .1 .0 }) (n .reach-of .result) refl (n .before .if2 .left) (n .reach-of .ensures) (d .draw-afresh .ensures)
 
 pub change-radius-spec : {M : Type 1} → statement M
 change-radius-spec =
@@ -216,14 +230,14 @@ change-radius-spec =
     same-length-2
     returns-2
     reach-of-requires
-    slice-aggregate-redraw
+    slice-aggregate-draw-afresh
     array-share-prefix-corners-2
-    slice-aggregate-redraw-2
+    slice-aggregate-draw-afresh-2
     array-share-prefix-bits-2
-    slice-aggregate-redraw-3
-    slice-aggregate-redraw-4
-    slice-aggregate-redraw-5
-    redraw-requires
+    slice-aggregate-draw-afresh-3
+    slice-aggregate-draw-afresh-4
+    slice-aggregate-draw-afresh-5
+    draw-afresh-requires
     same-length-3
     same-length-4
     same-length-5
