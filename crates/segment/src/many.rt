@@ -18,13 +18,14 @@ pub struct NearTest {
 }
 
 impl NearTest {
-    // A little more than the limit is needed aside, since the limit's own square is rounded.
-    pub fn new(s: LineSegment, reach: Proximity) -> Self
+    // For as many cells: for one or two the spans are not worth their while. A little more than the limit is needed aside,
+    // since the limit's own square is rounded.
+    pub fn new(s: LineSegment, reach: Proximity, cells: usize) -> Self
         ensures { λ r. ⌜ Ready s reach r ⌝ }
     {
         let line = s.measured();
         let side = reach.limit * 1.000001;
-        if spans::small_line(line) && spans::wide(reach, side) {
+        if 2 < cells && spans::small_line(line) && spans::wide(reach, side) {
             let ends = line.segment;
             let a = ends.p0;
             let b = ends.p1;

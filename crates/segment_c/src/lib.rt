@@ -61,7 +61,11 @@ pub extern "C" fn runcedau_near_cells(
     if near.len() < cells.len() {
         return false;
     }
-    let test = NearTest::new(between(x0, y0, x1, y1), Proximity::new(size, radius));
+    let test = NearTest::new(
+        between(x0, y0, x1, y1),
+        Proximity::new(size, radius),
+        cells.len(),
+    );
     let mut i = 0;
     while i < cells.len() {
         near[i] = byte(test.passes(cells[i]));

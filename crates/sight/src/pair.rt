@@ -107,7 +107,11 @@ fn run_pair(
     if turned.len() == 0 {
         return start;
     }
-    let test = NearTest::new(LineSegment::new(centre(p, size), centre(q, size)), reach);
+    let test = NearTest::new(
+        LineSegment::new(centre(p, size), centre(q, size)),
+        reach,
+        turned.len(),
+    );
     let mut block = start;
     let mut i = 0;
     while i < turned.len() {

@@ -24,10 +24,10 @@ span-of-requires-2 c κs = search needs
 returns : tie.Need-returns
 returns c =
     let t = c .before .before .before .before .before .before in
-    let m = t .before .before .before .before .before .measured in
-    let a = t .before .before .before .before .before .before .args in
-    let line = t .before .before .before .small-line .ensures (t .before .before .if1 .taken) in
-    let wide = t .before .wide .ensures (t .if2 .taken) in
+    let m = t .before .before .before .before .before .before .measured in
+    let a = t .before .before .before .before .before .before .before .args in
+    let line = t .before .before .before .small-line .ensures (t .before .before .if2 .taken) in
+    let wide = t .before .wide .ensures (t .if3 .taken) in
     record {
       line = m .ensures;
       reach = refl;
@@ -35,7 +35,7 @@ returns c =
     }
 
 returns-2 : tie.Need-returns-2
-returns-2 c = record { line = c .before .before .before .measured .ensures; reach = refl; outside = λ k h o. absurd (true≢false (sym (all-inside k h) ∙ o)) }
+returns-2 c = record { line = c .before .before .measured .ensures; reach = refl; outside = λ k h o. absurd (true≢false (sym (all-inside k h) ∙ o)) }
 
 pub new-spec : {M : Type 1} → statement M
 new-spec = tie.close (tie.spec measured-requires small-line-requires wide-requires span-of-requires span-of-requires-2 returns returns-2)
