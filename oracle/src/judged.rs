@@ -19,7 +19,7 @@ pub struct Changes {
 }
 
 /// A NaN is neither at least nor at most anything.
-fn bad_size(size: f64) -> bool {
+pub(crate) fn bad_size(size: f64) -> bool {
     !(LEAST_SIZE <= size && size <= MOST_SIZE)
 }
 
@@ -58,6 +58,33 @@ fn outside(batch: &[Entry]) -> bool {
         .any(|(x, y, _)| !allowed.contains(x) || !allowed.contains(y))
 }
 
+/// The refusals that a batch alone decides: 3, 4 and 5.
+pub(crate) fn judge_batch(batch: &[Entry]) -> Result<(), u64> {
+    if batch.len() > MOST_ENTRIES {
+        return Err(3);
+    }
+    if disordered(batch) {
+        return Err(4);
+    }
+    if outside(batch) {
+        return Err(5);
+    }
+    Ok(())
+}
+
+/// What a batch does to a grid, limits aside.
+pub(crate) fn changed(grid: &SparseGrid, batch: &[Entry]) -> (SparseGrid, Changes) {
+    let mut after = grid.clone();
+    let (confirmed, corners) = after.change(&SparseGrid::batch(batch));
+    let cells = after.occupied_cells().len();
+    let changes = Changes {
+        confirmed,
+        corners,
+        cells,
+    };
+    (after, changes)
+}
+
 pub struct Judged(SparseGrid);
 
 impl Judged {
@@ -91,31 +118,17 @@ impl Judged {
         if bad_size(self.size()) {
             return Err(1);
         }
-        if batch.len() > MOST_ENTRIES {
-            return Err(3);
-        }
-        if disordered(batch) {
-            return Err(4);
-        }
-        if outside(batch) {
-            return Err(5);
-        }
+        judge_batch(batch)?;
         self.change_if_room(batch)
     }
 
     /// Room is judged on the state afterwards only.
     fn change_if_room(&mut self, batch: &[Entry]) -> Result<Changes, u64> {
-        let mut after = self.0.clone();
-        let (confirmed, corners) = after.change(&SparseGrid::batch(batch));
-        let cells = after.occupied_cells().len();
-        if cells > MOST_CELLS {
+        let (after, changes) = changed(&self.0, batch);
+        if changes.cells > MOST_CELLS {
             return Err(6);
         }
         self.0 = after;
-        Ok(Changes {
-            confirmed,
-            corners,
-            cells,
-        })
+        Ok(changes)
     }
 }

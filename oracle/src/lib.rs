@@ -1,10 +1,12 @@
 //! What the proved code is compared with, and what the comparisons share.
 
 pub mod judged;
+pub mod judged_map;
 pub mod layouts;
 pub mod ordered;
 pub mod published;
 pub mod question;
+pub mod runs;
 pub mod stand_ins;
 pub mod vectors;
 

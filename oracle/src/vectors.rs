@@ -1,4 +1,5 @@
 //! What the lists of vectors share: bit patterns, awkward values, and the two files of a list.
+use crate::judged::Changes;
 use crate::occupancy::{Cell, Point};
 
 pub const SIGN: u64 = 1 << 63;
@@ -66,21 +67,45 @@ fn digits(numbers: &[u64]) -> String {
     numbers.iter().map(|n| format!(" {n:016x}")).collect()
 }
 
+fn decimals(numbers: &[i64]) -> String {
+    numbers.iter().map(|n| format!(" {n}")).collect()
+}
+
 impl Vectors {
+    /// A line that patterns answer.
     pub fn push(&mut self, function: char, operands: &[u64], answer: &[u64]) {
-        let line = format!("{function}{}", digits(operands));
+        self.answer(function, operands, &digits(answer));
+    }
+
+    /// A line that decimals answer.
+    pub fn push_counted(&mut self, letter: char, operands: &[u64], answer: &[i64]) {
+        self.answer(letter, operands, &decimals(answer));
+    }
+
+    fn answer(&mut self, letter: char, operands: &[u64], answer: &str) {
+        let line = format!("{letter}{}", digits(operands));
         self.asked += &format!("{line}\n");
-        self.answered += &format!("{line}{}\n", digits(answer));
+        self.answered += &format!("{line}{answer}\n");
     }
 
     /// A further line of an answer, which the program writes after the line before.
-    pub fn answer_more(&mut self, mark: char, numbers: &[u64]) {
-        self.answered += &format!("{mark}{}\n", digits(numbers));
+    pub fn answer_more(&mut self, line: &str) {
+        self.answered += &format!("{line}\n");
     }
 
-    /// How many bytes the program reads.
-    pub fn bytes(&self) -> usize {
-        self.asked.len()
+    /// The changes of a batch: each confirmed one, then each cell whose status changed.
+    pub fn answer_changes(&mut self, changes: &Changes) {
+        for (cell, occupied) in &changes.confirmed {
+            self.answer_more(&format!("= {} {} {}", cell.x, cell.y, *occupied as u8));
+        }
+        for (cell, status) in &changes.corners {
+            self.answer_more(&format!("^ {} {} {}", cell.x, cell.y, status.0));
+        }
+    }
+
+    /// How many bytes the program reads, and how many it writes.
+    pub fn bytes(&self) -> [usize; 2] {
+        [self.asked.len(), self.answered.len()]
     }
 
     /// To `stdin` and `stdout` in the folder that is the program's one argument.

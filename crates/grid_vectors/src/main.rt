@@ -1,5 +1,5 @@
 // Replays the vectors on standard input: each line is a letter and six operands of sixteen digits, 104 bytes in all,
-// and comes back with four numbers behind it. What the Rust answers is in the file stdout beside src/.
+// and comes back with four numbers behind it, in decimals. What the Rust answers is in the file stdout beside src/.
 //
 // o  size: a new floor
 // e  x y o: one more entry of the batch, 0 for free or 1 for occupied
@@ -8,21 +8,22 @@
 // i  x y: whether the cell is occupied
 // p  x y, s  x y width, c  x y radius, w  x0 y0 x1 y1 width: refusal, 1 or 0, the cell found
 //
-// Sizes, coordinates of points, widths and radii are bit patterns of f64, all else are two's complements.
+// Sizes, coordinates of points, widths and radii are bit patterns of f64, the other operands are two's complements.
 use grid::cell::Cell;
 use grid::cell::is_occupied;
 use grid::change::change_cells;
 use grid::floor::Floor;
-use libc::STDOUT_FILENO;
 use plane::point::Point;
 use question::ask::Place;
 use question::ask::ask;
 use question::search::Question;
+use table::copy::clear;
+use vectors::answer;
+use vectors::change::enter;
+use vectors::change::write_changes;
 use vectors::float_at;
-use vectors::integer_of;
-use vectors::pattern_at;
+use vectors::integer_at;
 use vectors::signed;
-use vectors::write_pattern;
 ghost use Prim.Native.Nat.{_<_};
 
 // The floor, the numbers of the batch so far, and whether there was a line.
@@ -30,46 +31,6 @@ struct State {
     floor: Floor,
     used: usize,
     more: bool,
-}
-
-// Four numbers, behind the line.
-fn answer(line: &[u8], a: u64, b: u64, c: u64, d: u64) {
-    io::write_all(STDOUT_FILENO, line);
-    write_pattern(a, b" ");
-    write_pattern(b, b" ");
-    write_pattern(c, b" ");
-    write_pattern(d, b"\n");
-}
-
-// A cell and its number, on a line of their own.
-fn write_change(mark: &[u8], key: u64, number: u8) {
-    let cell = Cell::of_key(key);
-    io::write_all(STDOUT_FILENO, mark);
-    write_pattern(signed(cell.x), b" ");
-    write_pattern(signed(cell.y), b" ");
-    write_pattern(number as u64, b"\n");
-}
-
-fn write_changes(mark: &[u8], keys: &[u64], numbers: &[u8], count: usize) {
-    if keys.len() < count {
-        return;
-    }
-    if numbers.len() < count {
-        return;
-    }
-    let mut i = 0;
-    while i < count {
-        write_change(mark, keys[i], numbers[i]);
-        i += 1;
-    }
-}
-
-fn clear(t: &mut [u64]) {
-    let mut i = 0;
-    while i < t.len() {
-        t[i] = 0;
-        i += 1;
-    }
 }
 
 fn point_at(line: &[u8], from: usize) -> Point
@@ -94,8 +55,8 @@ fn question_at(letter: u8, line: &[u8]) -> Question {
 
 fn cell_at(line: &[u8]) -> Cell {
     Cell {
-        x: integer_of(pattern_at(line, 2)),
-        y: integer_of(pattern_at(line, 19)),
+        x: integer_at(line, 2),
+        y: integer_at(line, 19),
     }
 }
 
@@ -103,8 +64,8 @@ fn find(letter: u8, line: &[u8], floor: Floor, cells: &[u64]) {
     let a = ask(floor, cells, question_at(letter, line));
     let place = a.cell;
     match place {
-        Place::Nothing => answer(line, a.refusal as u64, 0, 0, 0),
-        Place::At(c) => answer(line, a.refusal as u64, 1, signed(c.x), signed(c.y)),
+        Place::Nothing => answer(line, &[a.refusal as u64, 0, 0, 0]),
+        Place::At(c) => answer(line, &[a.refusal as u64, 1, signed(c.x), signed(c.y)]),
     }
 }
 
@@ -112,23 +73,8 @@ fn look(line: &[u8], floor: Floor, cells: &[u64]) {
     let n = floor.cells;
     if n <= cells.len() {
         let full = is_occupied(&cells[..n], cell_at(line));
-        answer(line, 0, full as u64, 0, 0);
+        answer(line, &[0, full as u64, 0, 0]);
     }
-}
-
-// One more entry, where there is room. Returns how many numbers the batch has then.
-fn enter(line: &[u8], batch: &mut [i64], used: usize) -> usize {
-    answer(line, 0, 0, 0, 0);
-    if batch.len() < 3 {
-        return used;
-    }
-    if batch.len() - 3 < used {
-        return used;
-    }
-    batch[used] = integer_of(pattern_at(line, 2));
-    batch[used + 1] = integer_of(pattern_at(line, 19));
-    batch[used + 2] = integer_of(pattern_at(line, 36));
-    used + 3
 }
 
 // Returns the floor afterwards.
@@ -148,10 +94,12 @@ fn change(line: &[u8], floor: Floor, cells: &mut [u64], batch: &[i64]) -> Floor 
     );
     answer(
         line,
-        r.refusal as u64,
-        r.confirmed as u64,
-        r.corners as u64,
-        r.floor.cells as u64,
+        &[
+            r.refusal as u64,
+            r.confirmed as u64,
+            r.corners as u64,
+            r.floor.cells as u64,
+        ],
     );
     write_changes(b"= ", &confirmed, &full, r.confirmed);
     write_changes(b"^ ", &corners, &statuses, r.corners);
@@ -161,13 +109,25 @@ fn change(line: &[u8], floor: Floor, cells: &mut [u64], batch: &[i64]) -> Floor 
 // A new floor, and an empty batch.
 fn open(line: &[u8], cells: &mut [u64]) -> State {
     clear(cells);
-    answer(line, 0, 0, 0, 0);
+    answer(line, &[0, 0, 0, 0]);
     State {
         floor: Floor {
             size: float_at(line, 2),
             cells: 0,
         },
         used: 0,
+        more: true,
+    }
+}
+
+// One more entry of the batch.
+fn add(line: &[u8], floor: Floor, batch: &mut [i64], used: usize) -> State {
+    answer(line, &[0, 0, 0, 0]);
+    let x = integer_at(line, 2);
+    let y = integer_at(line, 19);
+    State {
+        floor,
+        used: enter(batch, used, x, y, integer_at(line, 36)),
         more: true,
     }
 }
@@ -190,11 +150,7 @@ fn obey(letter: u8, line: &[u8], state: State, cells: &mut [u64], batch: &mut [i
     let floor = state.floor;
     match letter {
         b'o' => open(line, cells),
-        b'e' => State {
-            floor: floor,
-            used: enter(line, batch, state.used),
-            more: true,
-        },
+        b'e' => add(line, floor, batch, state.used),
         b'b' => commit(line, floor, cells, batch, state.used),
         b'i' => {
             look(line, floor, cells);
@@ -215,7 +171,6 @@ fn replay(state: State, cells: &mut [u64; 1024], batch: &mut [i64; 900]) -> Stat
         last.more = false;
         return last;
     }
-    line[103] = b' ';
     obey(line[0], &line, state, cells, batch)
 }
 

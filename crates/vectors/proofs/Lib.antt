@@ -1,2 +1,3 @@
 -- The laws of crate `vectors`.
+pub mod EnterLaws
 pub mod PatternLaws

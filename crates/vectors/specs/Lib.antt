@@ -1,2 +1,3 @@
 -- What the contracts of crate `vectors` cite.
+pub mod Entered
 pub mod Vectors

@@ -11,7 +11,7 @@
 //! - `i` x y: is the cell occupied?
 //! - `p` x y, `s` x y width, `c` x y radius, `w` x0 y0 x1 y1 width: the four questions
 //!
-//! Four numbers answer it, 0 where not used: the refusal; then of a batch how many changes were confirmed, how many
+//! Four decimals answer it, 0 where not used: the refusal; then of a batch how many changes were confirmed, how many
 //! statuses changed and how many cells are occupied, of a cell 1 or 0, of a question 1 or 0 and the x and y of the cell
 //! that was found. In `stdout` a line for each change follows the batch's: `=` x y o, then `^` x y status.
 use oracle::judged::{
@@ -94,10 +94,10 @@ impl List {
         *self.counts.entry(name.into()).or_default() += more;
     }
 
-    fn line(&mut self, letter: char, operands: &[u64], answer: [u64; 4]) {
+    fn line(&mut self, letter: char, operands: &[u64], answer: [i64; 4]) {
         let mut six = [0; 6];
         six[..operands.len()].copy_from_slice(operands);
-        self.vectors.push(letter, &six, &answer);
+        self.vectors.push_counted(letter, &six, &answer);
         self.count(format!("lines {letter}"), 1);
         if answer[0] > 0 {
             self.count(format!("refusals {letter} with {}", answer[0]), 1);
@@ -127,7 +127,7 @@ impl List {
         let batch = std::mem::take(&mut self.pending);
         match self.floor.change(&batch) {
             Err(refusal) => {
-                self.line('b', &[], [refusal, 0, 0, 0]);
+                self.line('b', &[], [refusal as i64, 0, 0, 0]);
                 self.tally('b', kind, 2);
             }
             Ok(changes) => {
@@ -139,16 +139,9 @@ impl List {
 
     fn list(&mut self, changes: &Changes) {
         let (confirmed, corners) = (changes.confirmed.len(), changes.corners.len());
-        let answer = [0, confirmed as u64, corners as u64, changes.cells as u64];
+        let answer = [0, confirmed as i64, corners as i64, changes.cells as i64];
         self.line('b', &[], answer);
-        for (cell, occupied) in &changes.confirmed {
-            let numbers = [cell.x as u64, cell.y as u64, *occupied as u64];
-            self.vectors.answer_more('=', &numbers);
-        }
-        for (cell, status) in &changes.corners {
-            let numbers = [cell.x as u64, cell.y as u64, status.0 as u64];
-            self.vectors.answer_more('^', &numbers);
-        }
+        self.vectors.answer_changes(changes);
         self.count("changes confirmed", confirmed);
         self.count("changes of corners", corners);
     }
@@ -162,7 +155,7 @@ impl List {
 
     fn is_occupied(&mut self, kind: &str, cell: Cell) {
         let occupied = self.floor.is_occupied(&cell);
-        let answer = [0, occupied as u64, 0, 0];
+        let answer = [0, occupied as i64, 0, 0];
         self.line('i', &[cell.x as u64, cell.y as u64], answer);
         self.tally('i', kind, !occupied as usize);
     }
@@ -170,9 +163,9 @@ impl List {
     fn ask(&mut self, kind: &str, question: Question) {
         let (letter, operands) = line_of(&question);
         let (answer, way) = match self.floor.ask(&question) {
-            Err(refusal) => ([refusal, 0, 0, 0], 2),
+            Err(refusal) => ([refusal as i64, 0, 0, 0], 2),
             Ok(None) => ([0; 4], 1),
-            Ok(Some(cell)) => ([0, 1, cell.x as u64, cell.y as u64], 0),
+            Ok(Some(cell)) => ([0, 1, cell.x, cell.y], 0),
         };
         self.line(letter, &operands, answer);
         self.tally(letter, kind, way);
@@ -1183,7 +1176,8 @@ fn main() {
     for (name, count) in &list.counts {
         eprintln!("{count:5} {name}");
     }
-    eprintln!("{:5} bytes of stdin", list.vectors.bytes());
-    assert!(list.vectors.bytes() < 1_000_000);
+    let [read, written] = list.vectors.bytes();
+    eprintln!("{read:5} bytes of stdin, {written} of stdout");
+    assert!(read < 1_000_000);
     list.vectors.write();
 }

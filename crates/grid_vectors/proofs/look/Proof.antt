@@ -17,8 +17,11 @@ cell-at-requires c κs = search needs
 is-occupied-requires : tie.Need-is-occupied-requires
 is-occupied-requires c κs = search needs
 
-cast-answer : tie.Need-cast-answer
-cast-answer c = search needs
+cast-t13 : tie.Need-cast-t13
+cast-t13 c = search needs
+
+slice-aggregate-answer : tie.Need-slice-aggregate-answer
+slice-aggregate-answer c = search needs
 
 answer-requires : tie.Need-answer-requires
 answer-requires c κs = search needs
@@ -36,7 +39,8 @@ look-spec =
     slice-aggregate-is-occupied
     cell-at-requires
     is-occupied-requires
-    cast-answer
+    cast-t13
+    slice-aggregate-answer
     answer-requires
     returns
     returns-2)

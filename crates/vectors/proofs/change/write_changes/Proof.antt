@@ -1,8 +1,8 @@
--- `grid_vectors::write_changes` is safe and ends: the changes that are left fall. Assumes nothing.
+-- `vectors::change::write_changes` is safe and ends: the changes that are left fall. Assumes nothing.
 use Prim.Native.Nat.{_-_}
 use native.Mathlib.Omega.{arith}
-use Rattle.grid_vectors.proofs.write_changes.Statement.{statement}
-use Rattle.grid_vectors.proofs.write_changes.Tie as tie
+use Rattle.vectors.proofs.change.write_changes.Statement.{statement}
+use Rattle.vectors.proofs.change.write_changes.Tie as tie
 
 abbrev Inv-loop : tie.InvT-loop
 Inv-loop mark keys numbers count i₀ i = Unit {0}

@@ -1,0 +1,90 @@
+-- `visibility_vectors::write_row` is safe and ends: the points that are left fall. Assumes nothing.
+use Prim.Native.Nat.{_-_}
+use native.Mathlib.Omega.{arith}
+use Rattle.visibility_vectors.proofs.write_row.Statement.{statement}
+use Rattle.visibility_vectors.proofs.write_row.Tie as tie
+
+abbrev Inv-loop : tie.InvT-loop
+Inv-loop i count points pairs j₀ j = Unit {0}
+
+abbrev μ-loop : tie.MeasureT-loop
+μ-loop i count points pairs j₀ j = count - j
+
+loop-holds : tie.Need-loop-holds Inv-loop μ-loop
+loop-holds c = tt
+
+mul-write-pair : tie.Need-mul-write-pair Inv-loop μ-loop
+mul-write-pair c = omega arith
+
+element-copy-out-write-pair : tie.Need-element-copy-out-write-pair Inv-loop μ-loop
+element-copy-out-write-pair c = omega arith
+
+mul-write-pair-2 : tie.Need-mul-write-pair-2 Inv-loop μ-loop
+mul-write-pair-2 c = omega arith
+
+element-copy-out-write-pair-2 : tie.Need-element-copy-out-write-pair-2 Inv-loop μ-loop
+element-copy-out-write-pair-2 c = omega arith
+
+mul-write-pair-3 : tie.Need-mul-write-pair-3 Inv-loop μ-loop
+mul-write-pair-3 c = omega arith
+
+add-write-pair : tie.Need-add-write-pair Inv-loop μ-loop
+add-write-pair c = omega arith
+
+mul-write-pair-4 : tie.Need-mul-write-pair-4 Inv-loop μ-loop
+mul-write-pair-4 c = omega arith
+
+element-copy-out-write-pair-3 : tie.Need-element-copy-out-write-pair-3 Inv-loop μ-loop
+element-copy-out-write-pair-3 c = omega arith
+
+mul-write-pair-5 : tie.Need-mul-write-pair-5 Inv-loop μ-loop
+mul-write-pair-5 c = omega arith
+
+add-write-pair-2 : tie.Need-add-write-pair-2 Inv-loop μ-loop
+add-write-pair-2 c = omega arith
+
+mul-write-pair-6 : tie.Need-mul-write-pair-6 Inv-loop μ-loop
+mul-write-pair-6 c = omega arith
+
+element-copy-out-write-pair-4 : tie.Need-element-copy-out-write-pair-4 Inv-loop μ-loop
+element-copy-out-write-pair-4 c = omega arith
+
+write-pair-requires : tie.Need-write-pair-requires Inv-loop μ-loop
+write-pair-requires c κs = tt
+
+add-j : tie.Need-add-j Inv-loop μ-loop
+add-j c = omega arith
+
+loop-less : tie.Need-loop-less Inv-loop μ-loop
+loop-less c = omega arith
+
+loop-again : tie.Need-loop-again Inv-loop μ-loop
+loop-again c = tt
+
+returns : tie.Need-returns Inv-loop μ-loop
+returns c = tt
+
+pub write-row-spec : {M : Type 1} → statement M
+write-row-spec =
+    tie.close
+    (tie.spec
+    Inv-loop
+    μ-loop
+    loop-holds
+    mul-write-pair
+    element-copy-out-write-pair
+    mul-write-pair-2
+    element-copy-out-write-pair-2
+    mul-write-pair-3
+    add-write-pair
+    mul-write-pair-4
+    element-copy-out-write-pair-3
+    mul-write-pair-5
+    add-write-pair-2
+    mul-write-pair-6
+    element-copy-out-write-pair-4
+    write-pair-requires
+    add-j
+    loop-less
+    loop-again
+    returns)
