@@ -8,7 +8,7 @@ use lib.ListN.{length, take, drop}
 use Rattle.model.specs.Batch.{Batch, cellsAfter, confirmed, cornerChanges}
 use Rattle.model.specs.Corner.{Bits}
 use Rattle.model.specs.Good.{Inside}
-use Rattle.model.specs.Limits.{maxBatch, maxCells, maxCoordinate, needCorners}
+use Rattle.model.specs.Limits.{maxCells, maxCoordinate}
 use Rattle.model.specs.Map.{Entry, toBatch}
 use Rattle.model.specs.Maps.{AscL, keys}
 use Rattle.model.specs.Refusal.{unsorted, outside}
@@ -52,7 +52,7 @@ Alters u k corn corn′ stat stat′ r =
     → Listed (numbered (cornerChanges u D ch)) corn corn′ stat stat′ r
 
 -- ---- the listed changes, and the corners around them, of the batch l on the cells C
-module _ (l : List Entry) (C conf conf′ full full′ : List ℕ) (changes : ℕ) (asc : AscL 0 C) (order : unsorted l ≡ false) (bounds : outside l ≡ false) (few : length l ≤ maxBatch)
+module _ (l : List Entry) (C conf conf′ full full′ : List ℕ) (changes : ℕ) (asc : AscL 0 C) (order : unsorted l ≡ false) (bounds : outside l ≡ false)
     (w : Listed (flags (confirmed (toBatch l) C)) conf conf′ full full′ changes) where
   abbrev ch₀ : Batch
   ch₀ = confirmed (toBatch l) C
@@ -60,15 +60,15 @@ module _ (l : List Entry) (C conf conf′ full full′ : List ℕ) (changes : �
   changes-turned : take changes conf′ ≡ keys ch₀
   changes-turned = listed-cells (flags ch₀) conf conf′ full full′ changes w ∙ flags-keys ch₀
 
-  pub corners-listed : (corn corn′ stat stat′ : List ℕ) (altered : ℕ) → needCorners ≤ length corn → needCorners ≤ length stat → Alters C (take changes conf′) corn corn′ stat stat′ altered
+  pub corners-listed : (corn corn′ stat stat′ : List ℕ) (altered : ℕ) → 9 * length l ≤ length corn → 9 * length l ≤ length stat → Alters C (take changes conf′) corn corn′ stat stat′ altered
       → Listed (numbered (cornerChanges C (cellsAfter (toBatch l) C) ch₀)) corn corn′ stat stat′ altered
   corners-listed corn corn′ stat stat′ altered hc hs g =
       let s : Settled (toBatch l) C = settled l C asc order bounds in
       let x : length (keys ch₀) ≡ length ch₀ = keys-length ch₀ in
       let y : length (toBatch l) ≡ length l = batch-length l in
       let z = s .fewer in
-      let p : 9 * length (keys ch₀) ≤ length corn = omega (arith, x, y, z, few, hc) in
-      let q : 9 * length (keys ch₀) ≤ length stat = omega (arith, x, y, z, few, hs) in
+      let p : 9 * length (keys ch₀) ≤ length corn = omega (arith, x, y, z, hc) in
+      let q : 9 * length (keys ch₀) ≤ length stat = omega (arith, x, y, z, hs) in
       subst (λ (k : List ℕ). Alters C k corn corn′ stat stat′ altered) changes-turned g ch₀ (cellsAfter (toBatch l) C) refl (s .turned) asc (s .keyOrder) (all-map (keys ch₀) inside-inner (s .inside)) p q
 
 module _ (floor : Floor) (l : List Entry) (t conf conf′ full full′ corn corn′ stat stat′ w : List ℕ) (changes altered after : ℕ) (C : List ℕ) (a : Applying t (floor .cells) C l (length corn) (length stat)) where
@@ -95,12 +95,17 @@ module _ (floor : Floor) (l : List Entry) (t conf conf′ full full′ corn corn
     listed = subst (λ (u : List ℕ). Confirms l u conf conf′ full full′ changes) same f (a .holds .order) (a .order) (a .bounds) hc hf
 
     turned : take changes conf′ ≡ keys ch
-    turned = changes-turned l C conf conf′ full full′ changes (a .holds .order) (a .order) (a .bounds) (a .few) listed
+    turned = changes-turned l C conf conf′ full full′ changes (a .holds .order) (a .order) (a .bounds) listed
 
     module _ (g : Alters (take n t) (take changes conf′) corn corn′ stat stat′ altered) (h : Commits (take maxCells t) n (take changes conf′) (take changes full′) w after) where
       corners : Listed (numbered (cornerChanges C C′ ch)) corn corn′ stat stat′ altered
       corners =
-          corners-listed l C conf conf′ full full′ changes (a .holds .order) (a .order) (a .bounds) (a .few) listed corn corn′ stat stat′ altered (a .corners) (a .statuses)
+          let few = a .few in
+          let hc = a .corners in
+          let hs = a .statuses in
+          let p : 9 * length l ≤ length corn = omega (arith, few, hc) in
+          let q : 9 * length l ≤ length stat = omega (arith, few, hs) in
+          corners-listed l C conf conf′ full full′ changes (a .holds .order) (a .order) (a .bounds) listed corn corn′ stat stat′ altered p q
           (subst (λ (u : List ℕ). Alters u (take changes conf′) corn corn′ stat stat′ altered) same g)
 
       pub applied : Done floor C l (record { cells = t; confirmed = conf; full = full; corners = corn; statuses = stat })

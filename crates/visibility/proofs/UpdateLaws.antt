@@ -1,21 +1,23 @@
 -- A batch that nothing but the number of points may refuse: the lists handed on, and what the call comes to. Assumes nothing.
-use Prim.Native.Nat.{ℕ, _≤_, _<_}
+use Prim.Native.Nat.{ℕ, _*_, _≤_, _<_}
 use native.Mathlib.Omega.{arith}
 use mathlib.Core.Path.{_≡_, refl, sym, ap, _∙_, subst}
 use mathlib.Core.Logic.{inl, inr}
 use mathlib.Core.Bool.{false}
 use mathlib.Core.List.{List}
 use lib.Ieee.{Float}
-use lib.ListN.{length, replicate, take}
+use lib.IntN.{ℤ}
+use lib.ListN.{length, length-replicate, replicate, take}
 use borrow.Author.Tests.{ltb-false, ltb-true}
 use Rattle.corner.specs.Changes.{numbered}
-use Rattle.grid.specs.Batches.{flags}
+use Rattle.grid.specs.Batches.{entries, flags}
+use Rattle.grid.proofs.EntryLaws.{entries-length}
 use Rattle.grid.proofs.FloorLaws.{holds-cells}
 use Rattle.marks.specs.Marked.{Marking}
 use Rattle.model.specs.Batch.{cellsAfter, confirmed, cornerChanges}
 use Rattle.model.specs.Cell.{reach}
 use Rattle.model.specs.Layer.{marks}
-use Rattle.model.specs.Limits.{maxPoints, needConfirmed, needCorners}
+use Rattle.model.specs.Limits.{maxBatch, maxPoints, needConfirmed, needCorners}
 use Rattle.model.specs.Map as model
 use Rattle.model.specs.Maps.{AscL}
 use Rattle.model.specs.Refusal.{outside, unsorted}
@@ -25,7 +27,7 @@ use Rattle.table.proofs.ListedLaws.{listed-cells, listed-numbers}
 use Rattle.visibility.specs.Change.{Done, Lent, changesOf, cornersOf, refusedWith}
 use Rattle.visibility.specs.Holds.{Tables}
 use Rattle.visibility.specs.Layers.{stoodOf}
-use Rattle.visibility.specs.Update.{Finishing, Updated, Updating, pointsAfter}
+use Rattle.visibility.specs.Update.{Finishing, Planned, Updated, Updating, pointsAfter}
 use Rattle.visibility.specs.declared.change.Changed.{Changed}
 use Rattle.visibility.specs.declared.map.Map.{Map}
 use Rattle.visibility.proofs.AcceptedLaws.{C′, M′, T, ch, closed, cs, few-corners, good, law, same-shift, set}
@@ -33,6 +35,28 @@ use Rattle.visibility.proofs.BorderLaws.{changes-bordered}
 use Rattle.visibility.proofs.LayerLaws.{layer-keys, layer-statuses}
 use Rattle.visibility.proofs.MarkLaws.{Marks, marked-count, marked-few, marked-keys, marked-many, marked-words, numbered-keys}
 use Rattle.visibility.proofs.StoodLaws.{marking}
+
+-- nine tables as they are lent together
+abbrev pub lentOf : List ℕ → List ℕ → List ℕ → List ℕ → List ℕ → List ℕ → List ℕ → List ℕ → List ℕ → Lent
+lentOf cells points statuses blockers pairs confirmed full corners altered =
+    record {
+      tables = record { cells = cells; points = points; statuses = statuses; blockers = blockers; pairs = pairs };
+      confirmed = confirmed;
+      full = full;
+      corners = corners;
+      altered = altered;
+    }
+
+-- what fits the length that a list has kept is within it
+pub reaches : (xs : List ℕ) {n k : ℕ} → length xs ≡ k → n ≤ k → n ≤ length xs
+reaches xs e h = rw e h
+
+-- nine corners an entry have room: of the 16 entries that 48 numbers are, and of as many as a batch may have
+pub small-room : (b : List ℤ) → length b ≤ 48 → 9 * length (entries b) ≤ length (replicate {A = ℕ} 144 0)
+small-room b h = rw (entries-length b, length-replicate {A = ℕ} 144 0) (omega (arith, h))
+
+pub full-room : (b : List ℤ) → length (entries b) ≤ maxBatch → 9 * length (entries b) ≤ length (replicate {A = ℕ} needCorners 0)
+full-room b h = rw (length-replicate {A = ℕ} needCorners 0) (omega (arith, h))
 
 -- what the listing promises, of the cells u
 abbrev pub Lists : List model.Entry → List ℕ → List ℕ → List ℕ → List ℕ → List ℕ → List ℕ → List ℕ → List ℕ → List ℕ → ℕ → ℕ → Type 0
@@ -92,39 +116,53 @@ module _ {m : Map} {t : Tables} {M : model.Map} {l : List model.Entry} (u : Upda
             moodsAre = marked-words (cs M l) (closed u) (good u .pointOrder) given marked h ∙ ap (λ (v : ℕ). wordsOf (stoodOf (marks v (cs M l)) (M .layer .points) (M′ M l .layer .points))) (same-shift M);
           }
 
+-- ---- the batch worked out: what the listing, the shift and the marking promise
+pub planned : (m : Map) (t : Tables) (l : List model.Entry) {turned turned′ says says′ corners corners′ bits bits′ out ks told moods : List ℕ} {changes found shift n near : ℕ}
+    → Lists l (take (m .cells) (t .cells)) turned turned′ says says′ corners corners′ bits bits′ changes found → shift ≡ model.shiftOf (m .size) (m .radius) → near ≡ reach shift
+    → out ≡ replicate maxPoints 0 → told ≡ replicate maxPoints 0
+    → Marks shift (take (m .points) (t .points)) (take (m .points) (t .statuses)) (take found corners′) (take found bits′) out ks told moods n
+    → Planned m t l (take changes turned′) (take changes says′) (take found corners′) (take found bits′) ks moods n near
+planned m t l {turned} {turned′} {says} {says′} {corners} {corners′} {bits} {bits′} {out} {ks} {told} {moods} {changes} {found} {shift} {n} {near} f e q x y w =
+    let v : Marks shift (take (m .points) (t .points)) (take (m .points) (t .statuses)) (take found corners′) (take found bits′) (replicate maxPoints 0) ks told moods n =
+    subst (λ (o : List ℕ). Marks shift (take (m .points) (t .points)) (take (m .points) (t .statuses)) (take found corners′) (take found bits′) o ks told moods n) x w in
+    let g : Marks shift (take (m .points) (t .points)) (take (m .points) (t .statuses)) (take found corners′) (take found bits′) (replicate maxPoints 0) ks (replicate maxPoints 0) moods n =
+    subst (λ (o : List ℕ). Marks shift (take (m .points) (t .points)) (take (m .points) (t .statuses)) (take found corners′) (take found bits′) (replicate maxPoints 0) ks o moods n) y v in
+    record {
+      many = λ M u. many u f e g;
+      few = λ M u h. finishing u f e g (few u f e g h);
+      far = λ M u. q ∙ ap reach (shift-is u f e g);
+    }
+
 -- ---- the call
-module _ (m : Map) (l : List model.Entry) (t : Lent) {turned turned′ says says′ corners corners′ bits bits′ ks moods : List ℕ} {changes found shift n : ℕ}
-    (f : Lists l (take (m .cells) (t .tables .cells)) turned turned′ says says′ corners corners′ bits bits′ changes found) (e : shift ≡ model.shiftOf (m .size) (m .radius))
-    (g : Marks shift (take (m .points) (t .tables .points)) (take (m .points) (t .tables .statuses)) (take found corners′) (take found bits′) (replicate maxPoints 0) ks (replicate maxPoints 0) moods n) where
+module _ (m : Map) (l : List model.Entry) (t : Lent) {turned full corners bits ks moods : List ℕ} {n near : ℕ} (p : Planned m (t .tables) l turned full corners bits ks moods n near) where
   -- too many points: nothing is altered
   pub update-refused : (r : Changed) → maxPoints < n → r ≡ refusedWith 7 → Updated m l t t r
   update-refused r h q =
       record {
         either = inr (q, refl);
         packed = λ M u z. ap (λ (x : Changed). x .refusal) q;
-        done = λ M u z. absurd (full M u (ltb-false maxPoints (pointsAfter M l) z));
+        done = λ M u z. absurd (over M u (ltb-false maxPoints (pointsAfter M l) z));
       }
     where
-      full : (M : model.Map) → Updating m (t .tables) M l → pointsAfter M l ≤ maxPoints → ⊥
-      full M u z = let k = many u f e g h in omega (arith, z, k)
+      over : (M : model.Map) → Updating m (t .tables) M l → pointsAfter M l ≤ maxPoints → ⊥
+      over M u z = let k = p .many M u h in omega (arith, z, k)
 
   -- else the rest is done
-  abbrev Finished : Lent → Changed → ℕ → Type 0
-  Finished t′ r near =
+  abbrev Finished : Lent → Changed → Type 0
+  Finished t′ r =
       (r .refusal ≡ 0)
-      × ((M : model.Map) (k : List model.Entry) → near ≡ reach (model.shiftOf (M .size) (M .layer .radius))
-      → Finishing m (t .tables) M k (take changes turned′) (take changes says′) (take found corners′) (take found bits′) ks moods n
+      × ((M : model.Map) (k : List model.Entry) → near ≡ reach (model.shiftOf (M .size) (M .layer .radius)) → Finishing m (t .tables) M k turned full corners bits ks moods n
       → needConfirmed ≤ length (t .confirmed) → needConfirmed ≤ length (t .full) → needCorners ≤ length (t .corners) → needCorners ≤ length (t .altered) → Done m M k t t′ r)
 
-  pub update-finished : (t′ : Lent) (r : Changed) (near : ℕ) → n ≤ maxPoints → near ≡ reach shift
+  pub update-finished : (t′ : Lent) (r : Changed) → n ≤ maxPoints
       → needConfirmed ≤ length (t .confirmed) → needConfirmed ≤ length (t .full) → needCorners ≤ length (t .corners) → needCorners ≤ length (t .altered)
-      → Finished t′ r near → Updated m l t t′ r
-  update-finished t′ r near h q x y z v w =
+      → Finished t′ r → Updated m l t t′ r
+  update-finished t′ r h x y z v w =
       record {
         either = inl (w .0);
-        packed = λ M u o. absurd (full M u (ltb-true maxPoints (pointsAfter M l) o));
-        done = λ M u o. w .1 M l (q ∙ ap reach (shift-is u f e g)) (finishing u f e g (ltb-false maxPoints (pointsAfter M l) o)) x y z v;
+        packed = λ M u o. absurd (under M u (ltb-true maxPoints (pointsAfter M l) o));
+        done = λ M u o. w .1 M l (p .far M u) (p .few M u h) x y z v;
       }
     where
-      full : (M : model.Map) → Updating m (t .tables) M l → maxPoints < pointsAfter M l → ⊥
-      full M u o = let k = few u f e g h in omega (arith, o, k)
+      under : (M : model.Map) → Updating m (t .tables) M l → maxPoints < pointsAfter M l → ⊥
+      under M u o = let k = p .few M u h .packed in omega (arith, o, k)

@@ -1,5 +1,5 @@
 -- A batch that nothing but the number of points may refuse. Definitions only.
-use Prim.Native.Nat.{ℕ, _≤_}
+use Prim.Native.Nat.{ℕ, _<_, _≤_}
 use mathlib.Core.Path.{_≡_}
 use mathlib.Core.Logic.{_⊎_}
 use mathlib.Core.Bool.{true, false}
@@ -7,6 +7,7 @@ use mathlib.Core.List.{List}
 use lib.Dec.{ltb}
 use lib.ListN.{length, take}
 use Rattle.model.specs.Batch.{cellsAfter}
+use Rattle.model.specs.Cell.{reach}
 use Rattle.model.specs.ClosedForm.{marksIn}
 use Rattle.model.specs.Limits.{maxBatch, maxCells, maxPoints}
 use Rattle.model.specs.Map as model
@@ -45,6 +46,12 @@ pub record Finishing (m : Map) (t : Tables) (M : model.Map) (l : List model.Entr
   pub number : n ≡ pointsAfter M l
   pub keysAre : ks ≡ pad maxPoints (keys (model.next (model.batch l) M .layer .points))
   pub moodsAre : take n moods ≡ wordsOf (stoodOf (marksIn (model.shiftOf (M .size) (M .layer .radius)) (M .cells) (model.toBatch l)) (M .layer .points) (model.next (model.batch l) M .layer .points))
+
+-- the batch worked out, with nothing altered yet: those lists, and how far off a cell blocks a point
+pub record Planned (m : Map) (t : Tables) (l : List model.Entry) (turned full corners bits ks moods : List ℕ) (n near : ℕ) : Type 0 where
+  pub many : (M : model.Map) → Updating m t M l → maxPoints < n → maxPoints < pointsAfter M l
+  pub few : (M : model.Map) → Updating m t M l → n ≤ maxPoints → Finishing m t M l turned full corners bits ks moods n
+  pub far : (M : model.Map) → Updating m t M l → near ≡ reach (model.shiftOf (M .size) (M .layer .radius))
 
 -- what such a batch comes to
 pub record Updated (m : Map) (l : List model.Entry) (t t′ : Lent) (r : Changed) : Type 0 where

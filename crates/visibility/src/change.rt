@@ -18,21 +18,21 @@ use table::copy::copy_bytes;
 ghost use mathlib.Core.Path.{_≡_};
 ghost use mathlib.Core.Bool.{false};
 ghost use mathlib.Core.List.{List, [], _∷_};
-ghost use Prim.Native.Nat.{_≤_};
+ghost use Prim.Native.Nat.{ℕ, _*_, _≤_};
 ghost use lib.Dec.{ltb};
-ghost use lib.ListN.{length};
+ghost use lib.ListN.{length, replicate, take};
 ghost use Rattle.corner.specs.Changes.{numbered};
 ghost use Rattle.grid.specs.Batches.{entries, flags};
 ghost use Rattle.model.specs.Batch.{cellsAfter, confirmed, cornerChanges};
 ghost use Rattle.model.specs.Cell.{reach};
-ghost use Rattle.model.specs.Limits.{maxCells, needConfirmed, needCorners};
+ghost use Rattle.model.specs.Limits.{maxCells, maxPoints, needConfirmed, needCorners};
 ghost use Rattle.model.specs.Map.{toBatch};
 ghost use Rattle.model.specs.Map as model;
 ghost use Rattle.model.specs.Maps.{AscL};
 ghost use Rattle.model.specs.Refusal.{outside, short, unsorted};
 ghost use Rattle.table.specs.Listed.{Listed};
 ghost use Rattle.visibility.specs.Change.{Changing, Done, refuseBatch, refusedWith};
-ghost use Rattle.visibility.specs.Update.{Finishing, Updated};
+ghost use Rattle.visibility.specs.Update.{Finishing, Planned, Updated};
 
 // 0, whether something was confirmed, how many changes were confirmed, how many corners altered, and the map afterwards; or the
 // refusal's number, and all else zero.
@@ -94,8 +94,8 @@ fn list_changes(
     corners: &mut [u64],
     bits: &mut [u8],
 ) -> Counts
-    requires { ⌜ (length (entries (now batch)) ≤ 256) × (length (now turned) ≡ 256) × (length (now says) ≡ 256) × (length (now corners) ≡ 2304) × (length (now bits) ≡ 2304) ⌝ }
-    ensures { λ r. ⌜ (r .changes ≤ 256) × (r .altered ≤ 2304) × (AscL 0 (now (cells .entry)) → unsorted (entries (now (batch .entry))) ≡ false → outside (entries (now (batch .entry))) ≡ false
+    requires { ⌜ (length (entries (now batch)) ≤ 256) × (length (now turned) ≡ 256) × (length (now says) ≡ 256) × (9 * length (entries (now batch)) ≤ length (now corners)) × (length (now bits) ≡ length (now corners)) ⌝ }
+    ensures { λ r. ⌜ (r .changes ≤ 256) × (r .altered ≤ length (now (corners .entry))) × (AscL 0 (now (cells .entry)) → unsorted (entries (now (batch .entry))) ≡ false → outside (entries (now (batch .entry))) ≡ false
         → Listed (flags (confirmed (toBatch (entries (now (batch .entry)))) (now (cells .entry)))) (now (turned .entry)) (now (turned .exit)) (now (says .entry)) (now (says .exit)) (r .changes)
         × Listed (numbered (cornerChanges (now (cells .entry)) (cellsAfter (toBatch (entries (now (batch .entry)))) (now (cells .entry))) (confirmed (toBatch (entries (now (batch .entry)))) (now (cells .entry)))))
         (now (corners .entry)) (now (corners .exit)) (now (bits .entry)) (now (bits .exit)) (r .altered)) ⌝ }
@@ -174,7 +174,126 @@ fn finish(
     }
 }
 
-// The batch, once nothing but the number of points may refuse it.
+// What a batch comes to: how many changes were confirmed, how many corners altered, how many points there are then, and how far off
+// a cell blocks one.
+struct Plan {
+    changes: usize,
+    altered: usize,
+    points: usize,
+    near: u64,
+}
+
+// Works a batch out and alters no table: the changes, the corners, and the points that these leave with their moods.
+fn work_out(
+    map: Map,
+    cells: &[u64],
+    points: &[u64],
+    statuses: &[u8],
+    batch: &[i64],
+    turned: &mut [u64; 256],
+    says: &mut [u8; 256],
+    cs: &mut [u64],
+    bits: &mut [u8],
+    ks: &mut [u64; 64],
+    moods: &mut [u64; 64],
+) -> Plan
+    requires { ⌜ (map .cells ≤ length (now cells)) × (map .points ≤ length (now points)) × (map .points ≤ length (now statuses)) × (length (entries (now batch)) ≤ 256)
+        × (9 * length (entries (now batch)) ≤ length (now cs)) × (length (now bits) ≡ length (now cs)) × (now ks ≡ replicate maxPoints 0) × (now moods ≡ replicate maxPoints 0) ⌝ }
+    ensures { λ r. ⌜ (r .changes ≤ length (now (turned .exit))) × (r .changes ≤ length (now (says .exit))) × (r .altered ≤ length (now (cs .exit))) × (r .altered ≤ length (now (bits .exit)))
+        × (length (now (ks .exit)) ≡ maxPoints) × (length (now (moods .exit)) ≡ maxPoints) × ((blockers pairs : List ℕ) → Planned map
+        (record { cells = now (cells .entry); points = now (points .entry); statuses = now (statuses .entry); blockers = blockers; pairs = pairs }) (entries (now (batch .entry)))
+        (take (r .changes) (now (turned .exit))) (take (r .changes) (now (says .exit))) (take (r .altered) (now (cs .exit))) (take (r .altered) (now (bits .exit))) (now (ks .exit)) (now (moods .exit)) (r .points) (r .near)) ⌝ }
+{
+    let n = map.cells;
+    let counts = list_changes(&cells[..n], batch, &mut turned[..], &mut says[..], cs, bits);
+    let found = counts.altered;
+    let shift = shift_of(map.size, map.radius);
+    let p = map.points;
+    let m = mark_points(
+        shift,
+        &points[..p],
+        &statuses[..p],
+        &cs[..found],
+        &bits[..found],
+        &mut ks[..],
+        &mut moods[..],
+    );
+    Plan {
+        changes: counts.changes,
+        altered: found,
+        points: m,
+        near: reach_of(shift),
+    }
+}
+
+// The batch, once nothing but the number of points may refuse it. `cs` and `bits` are room for the corner changes.
+fn update_within(
+    map: Map,
+    cells: &mut [u64],
+    points: &mut [u64],
+    statuses: &mut [u8],
+    blockers: &mut [u64],
+    pairs: &mut [u64],
+    batch: &[i64],
+    cs: &mut [u64],
+    bits: &mut [u8],
+    confirmed: &mut [u64],
+    full: &mut [u8],
+    corners: &mut [u64],
+    altered: &mut [u8],
+) -> Changed
+    requires { ⌜ (map .cells ≤ 1024) × (1024 ≤ length (now cells)) × (map .points ≤ 64) × (64 ≤ length (now points)) × (64 ≤ length (now statuses)) × (64 ≤ length (now blockers)) × (length (entries (now batch)) ≤ 256)
+        × (9 * length (entries (now batch)) ≤ length (now cs)) × (length (now bits) ≡ length (now cs))
+        × (needConfirmed ≤ length (now confirmed)) × (needConfirmed ≤ length (now full)) × (needCorners ≤ length (now corners)) × (needCorners ≤ length (now altered)) ⌝ }
+    ensures { λ r. ⌜ Updated map (entries (now (batch .entry)))
+        (record { tables = record { cells = now (cells .entry); points = now (points .entry); statuses = now (statuses .entry); blockers = now (blockers .entry); pairs = now (pairs .entry) }; confirmed = now (confirmed .entry); full = now (full .entry); corners = now (corners .entry); altered = now (altered .entry) })
+        (record { tables = record { cells = now (cells .exit); points = now (points .exit); statuses = now (statuses .exit); blockers = now (blockers .exit); pairs = now (pairs .exit) }; confirmed = now (confirmed .exit); full = now (full .exit); corners = now (corners .exit); altered = now (altered .exit) }) r ⌝ }
+{
+    let mut turned = [0u64; 256];
+    let mut says = [0u8; 256];
+    let mut ks = [0u64; 64];
+    let mut moods = [0u64; 64];
+    let plan = work_out(
+        map,
+        cells,
+        points,
+        statuses,
+        batch,
+        &mut turned,
+        &mut says,
+        cs,
+        bits,
+        &mut ks,
+        &mut moods,
+    );
+    if 64 < plan.points {
+        return refused(7);
+    }
+    let changes = plan.changes;
+    let found = plan.altered;
+    finish(
+        map,
+        cells,
+        points,
+        statuses,
+        blockers,
+        pairs,
+        &turned[..changes],
+        &says[..changes],
+        &cs[..found],
+        &bits[..found],
+        &ks[..],
+        &moods[..],
+        plan.points,
+        plan.near,
+        confirmed,
+        full,
+        corners,
+        altered,
+    )
+}
+
+// The same, with the room lent. Arrays are cleared first, so a batch of at most 16 entries gets small ones.
 fn update(
     map: Map,
     cells: &mut [u64],
@@ -194,52 +313,37 @@ fn update(
         (record { tables = record { cells = now (cells .entry); points = now (points .entry); statuses = now (statuses .entry); blockers = now (blockers .entry); pairs = now (pairs .entry) }; confirmed = now (confirmed .entry); full = now (full .entry); corners = now (corners .entry); altered = now (altered .entry) })
         (record { tables = record { cells = now (cells .exit); points = now (points .exit); statuses = now (statuses .exit); blockers = now (blockers .exit); pairs = now (pairs .exit) }; confirmed = now (confirmed .exit); full = now (full .exit); corners = now (corners .exit); altered = now (altered .exit) }) r ⌝ }
 {
-    let mut turned = [0u64; 256];
-    let mut says = [0u8; 256];
+    if batch.len() <= 48 {
+        let mut cs = [0u64; 144];
+        let mut bits = [0u8; 144];
+        return update_within(
+            map,
+            cells,
+            points,
+            statuses,
+            blockers,
+            pairs,
+            batch,
+            &mut cs[..],
+            &mut bits[..],
+            confirmed,
+            full,
+            corners,
+            altered,
+        );
+    }
     let mut cs = [0u64; 2304];
     let mut bits = [0u8; 2304];
-    let n = map.cells;
-    let counts = list_changes(
-        &cells[..n],
-        batch,
-        &mut turned[..],
-        &mut says[..],
-        &mut cs[..],
-        &mut bits[..],
-    );
-    let changes = counts.changes;
-    let found = counts.altered;
-    let shift = shift_of(map.size, map.radius);
-    let p = map.points;
-    let mut ks = [0u64; 64];
-    let mut moods = [0u64; 64];
-    let m = mark_points(
-        shift,
-        &points[..p],
-        &statuses[..p],
-        &cs[..found],
-        &bits[..found],
-        &mut ks[..],
-        &mut moods[..],
-    );
-    if 64 < m {
-        return refused(7);
-    }
-    finish(
+    update_within(
         map,
         cells,
         points,
         statuses,
         blockers,
         pairs,
-        &turned[..changes],
-        &says[..changes],
-        &cs[..found],
-        &bits[..found],
-        &ks[..],
-        &moods[..],
-        m,
-        reach_of(shift),
+        batch,
+        &mut cs[..],
+        &mut bits[..],
         confirmed,
         full,
         corners,

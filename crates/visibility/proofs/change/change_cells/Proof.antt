@@ -5,13 +5,13 @@ use mathlib.Core.Logic.{⊎-elim, inl, inr}
 use mathlib.Core.Bool.{Bool, false}
 use lib.Dec.{ltb}
 use lib.Seq.{length-take-le}
-use borrow.Author.Needs.{needs}
 use Rattle.grid.specs.Batches.{entries}
 use Rattle.model.specs.Refusal.{short}
 use Rattle.visibility.specs.Change.{Lent, lentNeeds, refuseBatch}
 use Rattle.visibility.specs.Holds as tables
 use Rattle.visibility.proofs.ChangeLaws.{Passed, batch-passed, crowded-refused, early-refused, packed-refused, short-either, updated}
 use Rattle.visibility.proofs.OpenLaws.{Enough, long-enough}
+use Rattle.visibility.proofs.UpdateLaws.{lentOf}
 use Rattle.visibility.proofs.change.change_cells.Statement.{statement}
 use Rattle.visibility.proofs.change.change_cells.Tie as tie
 
@@ -35,26 +35,14 @@ ended p = p .before .before .before .before .before .before .before .before .bef
 abbrev lent : tie.Start → Lent
 lent s =
     let a = s .args in
-    record {
-      tables = record { cells = a .cells .now; points = a .points .now; statuses = a .statuses .now; blockers = a .blockers .now; pairs = a .pairs .now };
-      confirmed = a .confirmed .now;
-      full = a .full .now;
-      corners = a .corners .now;
-      altered = a .altered .now;
-    }
+    lentOf (a .cells .now) (a .points .now) (a .statuses .now) (a .blockers .now) (a .pairs .now) (a .confirmed .now) (a .full .now) (a .corners .now) (a .altered .now)
 
 -- and as `update` gives them back
 abbrev given : tie.After-update → Lent
 given p =
     let a = p .update .last .1 in
     let o = a .1 .1 .1 .1 .1 .1 in
-    record {
-      tables = record { cells = a .0; points = a .1 .0; statuses = a .1 .1 .0; blockers = a .1 .1 .1 .0; pairs = a .1 .1 .1 .1 .0 };
-      confirmed = o .0;
-      full = o .1 .0;
-      corners = o .1 .1 .0;
-      altered = o .1 .1 .1 .0;
-    }
+    lentOf (a .0) (a .1 .0) (a .1 .1 .0) (a .1 .1 .1 .0) (a .1 .1 .1 .1 .0) (o .0) (o .1 .0) (o .1 .1 .0) (o .1 .1 .1 .0)
 
 -- the refusal that is due by the input
 due : (j : tie.After-judge) →
@@ -86,16 +74,16 @@ long : (c : tie.Else2) → Enough (lentNeeds (lent (start (c .before))))
 long c = long-enough (lentNeeds (lent (start (c .before)))) (passed c .long)
 
 short-tables-requires : tie.Need-short-tables-requires
-short-tables-requires c κs = search needs
+short-tables-requires c κs = tt
 
 short-outputs-requires : tie.Need-short-outputs-requires
-short-outputs-requires c κs = search needs
+short-outputs-requires c κs = tt
 
 judge-requires : tie.Need-judge-requires
-judge-requires c κs = search needs
+judge-requires c κs = tt
 
 refused-requires : tie.Need-refused-requires
-refused-requires c κs = search needs
+refused-requires c κs = tt
 
 returns : tie.Need-returns
 returns c =
@@ -118,13 +106,13 @@ slice-aggregate-count-after c =
     sym (length-take-le (a .map .cells) (a .cells .now) (omega (arith, l, s)))
 
 count-after-requires : tie.Need-count-after-requires
-count-after-requires c κs = search needs
+count-after-requires c κs = tt
 
 refused-requires-2 : tie.Need-refused-requires-2
-refused-requires-2 c κs = search needs
+refused-requires-2 c κs = tt
 
 same-length : tie.Need-same-length
-same-length c = search needs
+same-length c = refl
 
 returns-2 : tie.Need-returns-2
 returns-2 c =
@@ -134,10 +122,10 @@ returns-2 c =
     crowded-refused (a .map) (a .batch .now) (lent (start (e .before))) _ (c .refused2 .result) (none e) (k .count-after .result) (k .count-after .ensures) (c .before .if3 .taken) (c .refused2 .ensures) refl
 
 refused-requires-3 : tie.Need-refused-requires-3
-refused-requires-3 c κs = search needs
+refused-requires-3 c κs = tt
 
 same-length-2 : tie.Need-same-length-2
-same-length-2 c = search needs
+same-length-2 c = refl
 
 returns-3 : tie.Need-returns-3
 returns-3 c =
@@ -157,31 +145,31 @@ update-requires c κs =
     (q .small, n .0, f .if4 .left, n .1 .0, n .1 .1 .0, n .1 .1 .1 .0, q .few, o .0, o .1 .0, o .1 .1 .0, o .1 .1 .1 .0)
 
 same-length-3 : tie.Need-same-length-3
-same-length-3 c = search needs
+same-length-3 c = ended c .update .kept .1 .0
 
 same-length-4 : tie.Need-same-length-4
-same-length-4 c = search needs
+same-length-4 c = ended c .update .kept .1 .1 .0
 
 same-length-5 : tie.Need-same-length-5
-same-length-5 c = search needs
+same-length-5 c = ended c .update .kept .1 .1 .1 .0
 
 same-length-6 : tie.Need-same-length-6
-same-length-6 c = search needs
+same-length-6 c = ended c .update .kept .1 .1 .1 .1 .0
 
 same-length-7 : tie.Need-same-length-7
-same-length-7 c = search needs
+same-length-7 c = ended c .update .kept .1 .1 .1 .1 .1 .0
 
 same-length-8 : tie.Need-same-length-8
-same-length-8 c = search needs
+same-length-8 c = ended c .update .kept .1 .1 .1 .1 .1 .1 .1 .0
 
 same-length-9 : tie.Need-same-length-9
-same-length-9 c = search needs
+same-length-9 c = ended c .update .kept .1 .1 .1 .1 .1 .1 .1 .1 .0
 
 same-length-10 : tie.Need-same-length-10
-same-length-10 c = search needs
+same-length-10 c = ended c .update .kept .1 .1 .1 .1 .1 .1 .1 .1 .1 .0
 
 same-length-11 : tie.Need-same-length-11
-same-length-11 c = search needs
+same-length-11 c = ended c .update .kept .1 .1 .1 .1 .1 .1 .1 .1 .1 .1 .0
 
 returns-4 : tie.Need-returns-4
 returns-4 c =

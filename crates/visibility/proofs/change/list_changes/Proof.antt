@@ -61,18 +61,18 @@ returns c =
     let few : length l ≤ 256 = s .pre .0 in
     let e : length (a .turned .now) ≡ 256 = s .pre .1 in
     let g : length (a .says .now) ≡ 256 = s .pre .2 in
-    let h : length (a .corners .now) ≡ 2304 = s .pre .3 in
-    let i : length (a .bits .now) ≡ 2304 = s .pre .4 in
+    let h : 9 * length l ≤ length (a .corners .now) = s .pre .3 in
+    let i : length (a .bits .now) ≡ length (a .corners .now) = s .pre .4 in
     let n : f .result ≤ length l = f .ensures .3 in
     let m : k .result ≤ 9 * length (take (f .result) (f .last .1 .1 .0)) = k .ensures .3 in
     let t = turned-long p in (
       omega (arith, n, few),
-      omega (arith, m, t, n, few),
+      omega (arith, m, t, n, h),
       λ asc o b.
           let w = f .ensures .0 asc o b (omega (arith, few, e)) (omega (arith, few, g)) in (
             w,
-            corners-listed l (a .cells .now) (a .turned .now) (f .last .1 .1 .0) (a .says .now) (f .last .1 .1 .1 .0) (f .result) asc o b few w
-                (a .corners .now) (k .last .1 .1 .0) (a .bits .now) (k .last .1 .1 .1 .0) (k .result) (omega (arith, h)) (omega (arith, i)) (k .ensures .0),
+            corners-listed l (a .cells .now) (a .turned .now) (f .last .1 .1 .0) (a .says .now) (f .last .1 .1 .1 .0) (f .result) asc o b w
+                (a .corners .now) (k .last .1 .1 .0) (a .bits .now) (k .last .1 .1 .1 .0) (k .result) h (omega (arith, h, i)) (k .ensures .0),
           ),
     )
 

@@ -1,0 +1,121 @@
+-- `change::work_out`: the lists, and the points that the marks leave. Assumes nothing.
+use Prim.Native.Nat.{_≤_}
+use mathlib.Core.Path.{_≡_, sym, ap, _∙_}
+use lib.ListN.{length}
+use lib.Seq.{length-take-le}
+use Rattle.grid.specs.Batches.{entries}
+use Rattle.visibility.proofs.UpdateLaws.{planned, reaches}
+use Rattle.visibility.proofs.change.work_out.Statement.{statement}
+use Rattle.visibility.proofs.change.work_out.Tie as tie
+
+-- the places: the start; the lists; the shift; the points that the marks leave
+abbrev start : tie.After-list-changes-arg → tie.Start
+start p = p .before .before .before .before .before .before
+
+abbrev first : tie.After-list-changes → tie.After-list-changes-arg
+first p = p .before .before .before .before .before
+
+abbrev listing : tie.After-shift-of → tie.After-list-changes
+listing p = p .before .before .before .before .before
+
+abbrev shifting : tie.After-mark-points → tie.After-shift-of
+shifting p = p .before .before .before .before .before .before .before
+
+-- the lists that are lent as arrays have their lengths
+turned-long : (p : tie.After-list-changes-arg3) → length (start (p .before .before) .args .turned .now) ≡ 256
+turned-long p = p .before .list-changes-arg2 .given .0 .1
+
+says-long : (p : tie.After-list-changes-arg3) → length (start (p .before .before) .args .says .now) ≡ 256
+says-long p = p .list-changes-arg3 .given .0 .1
+
+-- what was listed is within the lists
+turned-inside : (p : tie.After-list-changes) → p .list-changes .result .changes ≤ length (p .list-changes .last .1 .1 .0)
+turned-inside p = let f = p .list-changes in reaches (f .last .1 .1 .0) (f .kept .1 .1 .0 ∙ turned-long (p .before .before .before)) (f .ensures .0)
+
+says-inside : (p : tie.After-list-changes) → p .list-changes .result .changes ≤ length (p .list-changes .last .1 .1 .1 .0)
+says-inside p = let f = p .list-changes in reaches (f .last .1 .1 .1 .0) (f .kept .1 .1 .1 .0 ∙ says-long (p .before .before .before)) (f .ensures .0)
+
+corners-inside : (p : tie.After-list-changes) → p .list-changes .result .altered ≤ length (p .list-changes .last .1 .1 .1 .1 .0)
+corners-inside p = let f = p .list-changes in reaches (f .last .1 .1 .1 .1 .0) (f .kept .1 .1 .1 .1 .0) (f .ensures .1)
+
+bits-inside : (p : tie.After-list-changes) → p .list-changes .result .altered ≤ length (p .list-changes .last .1 .1 .1 .1 .1 .0)
+bits-inside p = let f = p .list-changes in reaches (f .last .1 .1 .1 .1 .1 .0) (f .kept .1 .1 .1 .1 .1 .0 ∙ start (first p) .pre .5) (f .ensures .1)
+
+slice-aggregate-list-changes : tie.Need-slice-aggregate-list-changes
+slice-aggregate-list-changes c = let s = start c in sym (length-take-le (s .args .map .cells) (s .args .cells .now) (s .pre .0))
+
+list-changes-requires : tie.Need-list-changes-requires
+list-changes-requires c κs =
+    let p = c .before .before in
+    let w = start (p .before .before) .pre in
+    (w .3, turned-long p, says-long p, w .4, w .5)
+
+shift-of-requires : tie.Need-shift-of-requires
+shift-of-requires c κs = tt
+
+slice-aggregate-mark-points : tie.Need-slice-aggregate-mark-points
+slice-aggregate-mark-points c = let s = start (first (listing (c .before))) in sym (length-take-le (s .args .map .points) (s .args .points .now) (s .pre .1))
+
+slice-aggregate-mark-points-2 : tie.Need-slice-aggregate-mark-points-2
+slice-aggregate-mark-points-2 c = let s = start (first (listing (c .before .before))) in sym (length-take-le (s .args .map .points) (s .args .statuses .now) (s .pre .2))
+
+slice-reshare-prefix-mark-points : tie.Need-slice-reshare-prefix-mark-points
+slice-reshare-prefix-mark-points c = corners-inside (listing (c .before .before))
+
+slice-aggregate-mark-points-3 : tie.Need-slice-aggregate-mark-points-3
+slice-aggregate-mark-points-3 c = let g = listing (c .before .before .before) in sym (length-take-le (g .list-changes .result .altered) (g .list-changes .last .1 .1 .1 .1 .0) (corners-inside g))
+
+slice-reshare-prefix-mark-points-2 : tie.Need-slice-reshare-prefix-mark-points-2
+slice-reshare-prefix-mark-points-2 c = bits-inside (listing (c .before .before .before))
+
+slice-aggregate-mark-points-4 : tie.Need-slice-aggregate-mark-points-4
+slice-aggregate-mark-points-4 c = let g = listing (c .before .before .before .before) in sym (length-take-le (g .list-changes .result .altered) (g .list-changes .last .1 .1 .1 .1 .1 .0) (bits-inside g))
+
+mark-points-requires : tie.Need-mark-points-requires
+mark-points-requires c κs = tt
+
+reach-of-requires : tie.Need-reach-of-requires
+reach-of-requires c κs = tt
+
+same-length : tie.Need-same-length
+same-length c = listing (shifting (c .before)) .list-changes .kept .1 .1 .1 .1 .0
+
+same-length-2 : tie.Need-same-length-2
+same-length-2 c = listing (shifting (c .before)) .list-changes .kept .1 .1 .1 .1 .1 .0
+
+returns : tie.Need-returns
+returns c =
+    let p = c .before in
+    let h = shifting p in
+    let g = listing h in
+    let s = start (first g) in
+    let a = s .args in
+    let k = p .mark-points .kept .1 .1 .1 .1 .1 in (
+      turned-inside g,
+      says-inside g,
+      corners-inside g,
+      bits-inside g,
+      k .0 ∙ ap length (s .pre .6),
+      k .1 .0 ∙ ap length (s .pre .7),
+      λ blockers pairs. planned (a .map) (record { cells = a .cells .now; points = a .points .now; statuses = a .statuses .now; blockers = blockers; pairs = pairs }) (entries (a .batch .now))
+          (g .list-changes .ensures .2) (h .shift-of .ensures) (c .reach-of .ensures) (s .pre .6) (s .pre .7) (p .mark-points .ensures),
+    )
+
+pub work-out-spec : {M : Type 1} → statement M
+work-out-spec =
+    tie.close
+    (tie.spec
+    slice-aggregate-list-changes
+    list-changes-requires
+    shift-of-requires
+    slice-aggregate-mark-points
+    slice-aggregate-mark-points-2
+    slice-reshare-prefix-mark-points
+    slice-aggregate-mark-points-3
+    slice-reshare-prefix-mark-points-2
+    slice-aggregate-mark-points-4
+    mark-points-requires
+    reach-of-requires
+    same-length
+    same-length-2
+    returns)
