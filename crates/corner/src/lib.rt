@@ -1,5 +1,3 @@
 // Corners of occupied cells: a cell's status, the cells that have a corner, and the statuses that a batch altered.
 pub mod cells;
-pub mod changes;
 pub mod status;
-mod window;

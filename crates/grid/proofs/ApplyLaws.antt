@@ -17,12 +17,12 @@ use Rattle.table.specs.Tables.{All}
 use Rattle.table.proofs.AllLaws.{all-map}
 use Rattle.table.proofs.ListedLaws.{keys-length, listed-cells, listed-numbers}
 use Rattle.corner.specs.Changes.{Inner, Turned, numbered}
-use Rattle.grid.specs.Batches.{flags}
+use Rattle.floor.specs.Batches.{flags}
 use Rattle.grid.specs.Change.{Applying, Done}
-use Rattle.grid.specs.declared.floor.Floor.{Floor}
+use Rattle.floor.specs.declared.floor.Floor.{Floor}
 use Rattle.grid.proofs.BatchLaws.{Settled, settled, batch-length}
 use Rattle.grid.proofs.CommitLaws.{Commits, committed, committed-cells, committed-holds}
-use Rattle.grid.proofs.FloorLaws.{holds-cells}
+use Rattle.floor.proofs.FloorLaws.{holds-cells}
 
 -- ---- lists of changes
 pub flags-keys : (b : Batch) → keys (flags b) ≡ keys b

@@ -12,12 +12,12 @@ use Rattle.model.specs.Limits.{maxCells}
 use Rattle.model.specs.Map.{toBatch}
 use Rattle.model.specs.Maps.{AscL}
 use Rattle.model.specs.Refusal.{unsorted, outside}
-use Rattle.grid.specs.Batches.{entries}
+use Rattle.floor.specs.Batches.{entries}
 use Rattle.grid.specs.Change.{Applying, Changing, Done, Lent, refuseChange, refusedWith, shortFor}
-use Rattle.grid.specs.Floor.{Holds}
+use Rattle.floor.specs.Floor.{Holds}
 use Rattle.grid.specs.declared.change.Changed.{Changed}
-use Rattle.grid.specs.declared.floor.Floor.{Floor}
-use Rattle.grid.proofs.FloorLaws.{holds-cells}
+use Rattle.floor.specs.declared.floor.Floor.{Floor}
+use Rattle.floor.proofs.FloorLaws.{holds-cells}
 use Rattle.grid.proofs.RefuseLaws.{Passed, apart, change-early, change-passed, long-enough}
 
 module _ (floor : Floor) (b : List ℤ) (t t′ : Lent) (r : Changed) where

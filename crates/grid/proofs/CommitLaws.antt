@@ -14,10 +14,10 @@ use Rattle.model.proofs.BatchLaws.{cells-order}
 use Rattle.table.specs.Listed.{values}
 use Rattle.table.specs.Tables.{Table, pad}
 use Rattle.table.proofs.TableLaws.{pad-length, pad-table, pad-take}
-use Rattle.grid.specs.Batches.{flags}
-use Rattle.grid.specs.Floor.{Holds}
+use Rattle.floor.specs.Batches.{flags}
+use Rattle.floor.specs.Floor.{Holds}
 use Rattle.grid.proofs.BatchLaws.{Settled, settled}
-use Rattle.grid.proofs.FloorLaws.{behind}
+use Rattle.floor.proofs.FloorLaws.{behind}
 
 -- the first places of a floor's table
 pub holds-table : (t : List ℕ) (n : ℕ) (C : List ℕ) → Holds t n C → take maxCells t ≡ pad maxCells C

@@ -8,11 +8,11 @@ use lib.ListN.{length}
 use Rattle.model.specs.Batch.{cellsAfter}
 use Rattle.model.specs.Limits.{maxCells}
 use Rattle.model.specs.Map.{toBatch}
-use Rattle.grid.specs.Batches.{entries}
+use Rattle.floor.specs.Batches.{entries}
 use Rattle.grid.specs.Change.{Changing, Done, Lent, refuseChange, shortFor}
-use Rattle.grid.specs.Floor.{Holds}
+use Rattle.floor.specs.Floor.{Holds}
 use Rattle.grid.specs.declared.change.Changed.{Changed}
-use Rattle.grid.specs.declared.floor.Floor.{Floor}
+use Rattle.floor.specs.declared.floor.Floor.{Floor}
 
 same-tables : (t u : Lent) → t .cells ≡ u .cells → t .confirmed ≡ u .confirmed → t .full ≡ u .full → t .corners ≡ u .corners → t .statuses ≡ u .statuses → t ≡ u
 same-tables t u a b c d e = rw (a, b, c, d, e) refl

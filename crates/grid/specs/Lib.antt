@@ -1,4 +1,2 @@
 -- What the contracts of crate `grid` cite.
-pub mod Batches
 pub mod Change
-pub mod Floor

@@ -1,9 +1,9 @@
 // A batch on the occupied cells: how many there are afterwards, what is confirmed, and the change itself. Nothing is
 // asked of a table or a batch; what is promised is promised of an ascending table and of a batch that is not
 // refused.
-use crate::cell::Cell;
-use table::change::insert;
-use table::change::remove;
+use floor::cell::Cell;
+use insert::change::insert;
+use insert::change::remove;
 use table::place::contains;
 ghost use mathlib.Core.Path.{_≡_};
 ghost use mathlib.Core.Bool.{true, false, cond};
@@ -17,7 +17,7 @@ ghost use Rattle.model.specs.Maps.{Asc, AscL, has, keys};
 ghost use Rattle.model.specs.Refusal.{outside, unsorted};
 ghost use Rattle.table.specs.Listed.{Listed, Unlisted, values};
 ghost use Rattle.table.specs.Tables.{Table, pad};
-ghost use Rattle.grid.specs.Batches.{Written, alters, entries, flags, isFull};
+ghost use Rattle.floor.specs.Batches.{Written, alters, entries, flags, isFull};
 
 // The key of the entry at i.
 fn key_at(batch: &[i64], i: usize) -> u64

@@ -2,17 +2,17 @@
 use crate::batch::commit;
 use crate::batch::confirm;
 use crate::batch::count_after;
-use crate::floor::Floor;
-use crate::judge::bad_size;
-use crate::judge::refuse_batch;
-use corner::changes::corner_changes;
+use corners::changes::corner_changes;
+use floor::floor::Floor;
+use floor::judge::bad_size;
+use floor::judge::refuse_batch;
 ghost use mathlib.Core.List.{List};
 ghost use mathlib.Core.Path.{_≡_};
 ghost use Prim.Native.Nat.{ℕ, _≤_};
 ghost use lib.Dec.{ltb};
 ghost use lib.ListN.{length};
 ghost use Rattle.model.specs.Limits.{maxCells};
-ghost use Rattle.grid.specs.Batches.{entries};
+ghost use Rattle.floor.specs.Batches.{entries};
 ghost use Rattle.grid.specs.Change.{Applying, Changing, Done, refuseChange, refusedWith, shortOf};
 
 // 0 with how many changes were confirmed, how many corners altered, and the floor afterwards; or the refusal's

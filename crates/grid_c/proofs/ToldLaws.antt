@@ -10,11 +10,11 @@ use Rattle.model.specs.Limits.{maxCoordinate}
 use Rattle.model.specs.Maps.{AscL}
 use Rattle.model.specs.Shape.{Question, ask}
 use Rattle.table.specs.Tables.{All}
-use Rattle.grid.specs.Floor.{Holds}
-use Rattle.question.specs.Ask.{refuseAsk}
+use Rattle.floor.specs.Floor.{Holds}
+use Rattle.questions.specs.Ask.{refuseAsk}
 use Rattle.question.specs.Walk.{foundAs, keyed}
 use Rattle.question.specs.declared.search.Found.{Found}
-use Rattle.question.proofs.AskLaws.{search-told}
+use Rattle.questions.proofs.AskLaws.{search-told}
 use Rattle.grid_c.specs.Told.{keyOr, told}
 
 key-of : (o : Option ℕ) → keyed o .key ≡ keyOr o

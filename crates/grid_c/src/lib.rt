@@ -1,17 +1,17 @@
 // The floor under C names, for Rust and C to call: benchmarks and comparisons go through here.
+use floor::floor::Floor;
 use grid::change::change_cells;
-use grid::floor::Floor;
 use plane::point::Point;
-use question::ask::judge;
 use question::search::Question;
 use question::search::search;
+use questions::ask::judge;
 ghost use mathlib.Core.List.{List};
 ghost use mathlib.Core.Path.{_≡_};
 ghost use Prim.Native.Nat.{ℕ};
 ghost use lib.ListN.{length};
 ghost use Rattle.model.specs.Shape.{ask};
-ghost use Rattle.grid.specs.Floor.{Holds};
-ghost use Rattle.question.specs.Ask.{refuseAsk};
+ghost use Rattle.floor.specs.Floor.{Holds};
+ghost use Rattle.questions.specs.Ask.{refuseAsk};
 ghost use Rattle.question.specs.Question.{asked};
 ghost use Rattle.grid_c.specs.Called.{Called};
 ghost use Rattle.grid_c.specs.Told.{question, told};

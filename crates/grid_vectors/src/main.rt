@@ -9,15 +9,15 @@
 // p  x y, s  x y width, c  x y radius, w  x0 y0 x1 y1 width: refusal, 1 or 0, the cell found
 //
 // Sizes, coordinates of points, widths and radii are bit patterns of f64, the other operands are two's complements.
-use grid::cell::Cell;
-use grid::cell::is_occupied;
+use copy::copy::clear;
+use floor::cell::Cell;
+use floor::cell::is_occupied;
+use floor::floor::Floor;
 use grid::change::change_cells;
-use grid::floor::Floor;
 use plane::point::Point;
-use question::ask::Place;
-use question::ask::ask;
 use question::search::Question;
-use table::copy::clear;
+use questions::ask::Place;
+use questions::ask::ask;
 use vectors::answer;
 use vectors::change::enter;
 use vectors::change::write_changes;

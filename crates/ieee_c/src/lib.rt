@@ -10,14 +10,14 @@ ghost use Rattle.ieee.specs.Whole.{floorZ, ceilZ, biased};
 pub extern "C" fn runcedau_root(x: f64) -> f64
     ensures { λ r. ⌜ r ≡ rootF x ⌝ }
 {
-    ieee::root::root(x)
+    root::root::root(x)
 }
 
 #[no_mangle]
 pub extern "C" fn runcedau_root_threshold(x: f64) -> f64
     ensures { λ r. ⌜ Threshold x r ⌝ }
 {
-    ieee::threshold::root_threshold(x)
+    root::threshold::root_threshold(x)
 }
 
 #[no_mangle]

@@ -8,7 +8,7 @@ use vectors::signed;
 
 fn answer(function: u8, x: f64, y: f64) -> u64 {
     match function {
-        b'r' => pattern_of(ieee::root::root(x)),
+        b'r' => pattern_of(root::root::root(x)),
         b'i' => signed(ieee::whole::cut_to_i64(x)),
         b'f' => signed(ieee::whole::floor_to_i64(x)),
         b'c' => signed(ieee::whole::ceil_to_i64(x)),
@@ -17,7 +17,7 @@ fn answer(function: u8, x: f64, y: f64) -> u64 {
         b'a' => pattern_of(ieee::pick::abs(x)),
         b'l' => pattern_of(ieee::pick::min(x, y)),
         b'g' => pattern_of(ieee::pick::max(x, y)),
-        b't' => pattern_of(ieee::threshold::root_threshold(x)),
+        b't' => pattern_of(root::threshold::root_threshold(x)),
         _ => 0,
     }
 }

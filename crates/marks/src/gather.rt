@@ -2,9 +2,9 @@
 // is kept of each stands still while the marks are made.
 use corner::status::Corner;
 use corner::status::CornerStatus;
+use insert::change::insert;
 use std::num::wrapping_add_u64;
 use std::num::wrapping_sub_u64;
-use table::change::insert;
 ghost use mathlib.Core.Path.{_≡_};
 ghost use mathlib.Core.List.{List};
 ghost use Prim.Native.Nat.{ℕ, _+_, _<_, _≤_};

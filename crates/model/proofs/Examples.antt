@@ -26,13 +26,6 @@ use Rattle.model.specs.Listing.{text, digits, cellText, pointLines, pair
 use Rattle.model.specs.Borders.{near, nearTest, bits, joins, borders, answers, counts, sixPoints, seen, hidden, seenAgain, bothEnds, updates, blockers, head, heads, gives, files, AllNamed}
 use Rattle.model.specs.Examples.{c, num, pt, at, after, setRadius, pointStatus, pointBlock, pairBlock, flat, cover, lies, twoCells, oneFreed, table, All, circle?, ten, tenAgain, others, workedFile, workedListing}
 
--- two runs of accepted operations, from the same opening to the same cells and radius, after which a pair is blocked and is not
-abbrev pub Remembered : Type 0
-Remembered =
-    (a b : List Op) × (refusals a (opened c (num (pos 200))) ≡ 0 ∷ 0 ∷ []) × (refusals b (opened c (num (pos 200))) ≡ 0 ∷ 0 ∷ 0 ∷ [])
-    × (after 200 a .cells ≡ after 200 b .cells) × (after 200 a .layer .radius ≡ after 200 b .layer .radius)
-    × (p q : ℕ) × (edge p q (after 200 a .layer .edges) ≡ some (some (at (negsuc 2) (pos 2)))) × (edge p q (after 200 b .layer .edges) ≡ some none)
-
 -- what is to be computed, said once: whoever unfolds this unfolds all of it
 unfoldable pub everything : Unit {0}
 unfolding near nearTest bits joins borders answers counts sixPoints seen hidden seenAgain bothEnds updates blockers head heads gives files fromPoint fromElsewhere freePoints visibleFrom neighbours table num pt at after pointStatus flat cover lies twoCells oneFreed add sub mul div lt le eq neg ofInt ofBits absF minF maxF rootF floorZ ceilZ centreF shiftF get put del mapV keys sift has insert cut find key within number sameBits corner statusOf quadrant sees cornersAmong cellsAfter confirmed met altered cornerChanges plus minus times over dot norm turned tiny bound root2 cellOf centre lowCorner verticalAt horizontalAt distance nearCorners between meets passesNear pointTest lowEnd highEnd inBox squareTest stripOf leftmost rightmost endsIn sidesAt search rowIn inColumn inStrip sweepTest line edge tie untie link hide erase marks raise lower mark markAll phase2 wanted connect phase3 edgeRun settleRow settleAll phase4 update toBatch shiftOf tests changed rebuilt next firstOf verdict short badSize badRadius unsorted outside refuseOpen judge refusal step run opened changedCorners others pointBlock pairBlock circle? ten tenAgain setRadius pointInside lineInside inCircle circleTest listing workedFile workedListing text digits cellText pointLines pairLines summary refusedLine bigEndian entries badFlag takeSize takeRadius takeBatch sized oneField readOn readFile adjacent touches union joinCell blocksOf blockCount corners points allPairs isOpen openPairs pairsFrom pairs refusals
@@ -48,35 +41,10 @@ pub examples-run : All others
 unfolding everything
 examples-run = (tt, (tt, tt))
 
--- The worked map file gives the worked listing, byte for byte.
-pub worked-listing : listing workedFile ≡ workedListing
-unfolding everything
-worked-listing = refl
-
--- Blockers have a history: where two runs end in the same cells and radius, a pair may still be blocked after one and open after the other (example 10).
-pub blockers-remember : Remembered
-unfolding everything
-blockers-remember = (ten, tenAgain, refl, refl, refl, refl, at (negsuc 1) (pos 2), at (pos 2) (pos 2), refl, refl)
-
 -- The tests, limits and blocks are right where a wrong definition would still look right.
 pub borders-hold : AllNamed borders
 unfolding everything
 borders-hold = (tt, (tt, (tt, (tt, (tt, (tt, (tt, (tt, (tt, (tt, tt))))))))))
-
--- So are visibility, open pairs and neighbours.
-pub answers-hold : AllNamed answers
-unfolding everything
-answers-hold = (tt, (tt, tt))
-
--- Pairs come, go and come back with the bits that hide them.
-pub updates-hold : AllNamed updates
-unfolding everything
-updates-hold = (tt, (tt, (tt, tt)))
-
--- Blockers of stored pairs come and go with the cells.
-pub blockers-hold : AllNamed blockers
-unfolding everything
-blockers-hold = (tt, (tt, (tt, tt)))
 
 -- So are the listing's counts.
 pub counts-hold : AllNamed counts

@@ -1,4 +1,3 @@
 -- What the contracts of crate `question` cite.
-pub mod Ask
 pub mod Question
 pub mod Walk

@@ -2,8 +2,8 @@
 // are a stretch that begins inside it. There is a walk for each shape: a square and a circle can look at one cell
 // before they cut its column out of the table, a strip has to work out its rows first.
 use crate::search::Found;
+use circle::circle::Circle;
 use shape::bounds::Bounds;
-use shape::circle::Circle;
 use shape::sweep::Strip;
 use table::column::column;
 use table::column::rows_from;

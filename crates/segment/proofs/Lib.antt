@@ -3,7 +3,6 @@ pub mod AsideLaws
 pub mod CrossingLaws
 pub mod MeetsLaws
 pub mod NearLaws
-pub mod SearchWalk
 pub mod SpanLaws
 pub mod SquaredLaws
 pub mod SumOfSquares

@@ -4,5 +4,4 @@ pub mod many;
 mod measured;
 mod meets;
 pub mod near;
-pub mod search;
 mod spans;

@@ -28,8 +28,8 @@ impl Proximity {
         Proximity {
             size,
             limit,
-            near: ieee::threshold::root_threshold(radius),
-            far: ieee::threshold::root_threshold(limit),
+            near: root::threshold::root_threshold(radius),
+            far: root::threshold::root_threshold(limit),
         }
     }
 }

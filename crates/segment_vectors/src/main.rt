@@ -10,11 +10,11 @@
 // An operand that is not used is 0. The key and the 1 or 0 are plain numbers, all else are bit patterns of f64.
 // An answer is how many values there are, then the first and the second, 0 where there is none. The near test
 // answers 1 or 0, and no value.
+use extent::search::SearchF64;
 use libc::STDOUT_FILENO;
 use plane::point::Point;
 use segment::line::Crossings;
 use segment::line::LineSegment;
-use segment::search::SearchF64;
 use vectors::float_at;
 use vectors::pattern_at;
 use vectors::pattern_of;

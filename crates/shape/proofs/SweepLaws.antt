@@ -16,7 +16,7 @@ use Rattle.model.specs.Segment.{Seg, checkMin, checkMax, verticalAt}
 use Rattle.model.specs.Shape.{Strip, from, ends, sides, leftmost, rightmost, endsIn, sidesAt, search, rowIn, inColumn, inStrip}
 use Rattle.segment.specs.Crossing.{places, values}
 use Rattle.plane.specs.Values.{edgeOf}
-use Rattle.segment.specs.Search.{held, kept}
+use Rattle.extent.specs.Search.{held, kept}
 use Rattle.segment.specs.declared.line.Crossings.{Crossings}
 use Rattle.plane.proofs.CornerLaws.{column-next}
 use Rattle.segment.proofs.CrossingLaws.{places-hold}

@@ -1,16 +1,16 @@
 // The sweep test without its tables: the strip that a segment of some width sweeps, the columns that it
 // spans, and its rows in one column.
 use crate::bounds::Bounds;
+use extent::search::SearchF64;
 use plane::cell;
 use plane::point::Point;
 use segment::line::LineSegment;
-use segment::search::SearchF64;
 ghost use mathlib.Core.Path.{_≡_};
 ghost use mathlib.Core.List.{[], _∷_};
 ghost use Rattle.model.specs.Plane.{minus, norm};
 ghost use Rattle.model.specs.Segment.{verticalAt};
 ghost use Rattle.model.specs.Shape.{stripOf, ends, sides, lesser, greater, leftmost, rightmost, endsIn, sidesAt};
-ghost use Rattle.segment.specs.Search.{held};
+ghost use Rattle.extent.specs.Search.{held};
 ghost use Rattle.plane.specs.Values.{pt};
 ghost use Rattle.shape.specs.Sweep.{strip, met, unmet, rowsBetween, rowsOf, columnsOf};
 

@@ -8,7 +8,7 @@ use mathlib.Core.List.{List, [], _∷_, _++_}
 use mathlib.Core.Option.{Option, none}
 use lib.ListN.{length, drop, getD, set, length-set}
 use lib.Ieee.{Float}
-use Rattle.grid.specs.Batches.{flags}
+use Rattle.floor.specs.Batches.{flags}
 use Rattle.grid.proofs.ListedLaws.{keys-at}
 use Rattle.grid.proofs.WriteLaws.{listed-lengths}
 use Rattle.lists.proofs.Front.{mix, mix-done, mix-more}

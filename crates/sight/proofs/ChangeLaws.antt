@@ -8,7 +8,7 @@ use mathlib.Core.List.{List, [], _∷_}
 use mathlib.Core.Option.{Option}
 use lib.ListN.{length, drop, getD, drop-of-length-le}
 use lib.Seq.{drop-cons}
-use Rattle.grid.specs.Batches.{flags}
+use Rattle.floor.specs.Batches.{flags}
 use Rattle.grid.proofs.ListedLaws.{flags-at, keys-at}
 use Rattle.grid.proofs.WriteLaws.{Says}
 use Rattle.model.specs.Batch.{Batch}

@@ -10,7 +10,7 @@ use borrow.Author.Tests.{lt-ltb, le-ltb, ltb-true}
 use lib.Dec.{ltb}
 use lib.Ieee.{Float}
 use lib.ListN.{length, getD, set, length-set}
-use Rattle.grid.specs.Batches.{flags}
+use Rattle.floor.specs.Batches.{flags}
 use Rattle.grid.proofs.ListedLaws.{keys-at}
 use Rattle.grid.proofs.WriteLaws.{listed-lengths}
 use Rattle.marks.specs.Standing.{Small, Standing, mood, word}

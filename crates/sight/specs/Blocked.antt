@@ -6,7 +6,7 @@ use mathlib.Core.List.{List, [], _∷_}
 use mathlib.Core.Option.{Option, none}
 use lib.Dec.{eqb}
 use lib.ListN.{getD}
-use Rattle.grid.specs.Batches.{flags}
+use Rattle.floor.specs.Batches.{flags}
 use Rattle.marks.specs.Standing.{Small, Standing, word}
 use Rattle.model.specs.Batch.{Batch}
 use Rattle.model.specs.ClosedForm.{pointRun}

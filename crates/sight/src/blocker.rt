@@ -7,7 +7,7 @@ ghost use mathlib.Core.List.{List, _++_};
 ghost use mathlib.Core.Option.{Option};
 ghost use Prim.Native.Nat.{ℕ, _<_, _≤_};
 ghost use lib.ListN.{drop, length};
-ghost use Rattle.grid.specs.Batches.{flags};
+ghost use Rattle.floor.specs.Batches.{flags};
 ghost use Rattle.marks.specs.Standing.{Standing, mood};
 ghost use Rattle.model.specs.Batch.{Batch};
 ghost use Rattle.model.specs.Cell.{reach};

@@ -1,4 +1,4 @@
 // What blocks points and pairs after an update.
 pub mod blocker;
 pub mod pair;
-mod tests;
+pub mod tests;

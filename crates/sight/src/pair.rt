@@ -12,7 +12,7 @@ ghost use mathlib.Core.Option.{Option, none};
 ghost use Prim.Native.Nat.{ℕ, _+_, _*_, _<_, _≤_};
 ghost use lib.ListN.{length};
 ghost use Rattle.corner.specs.Corners.{dir};
-ghost use Rattle.grid.specs.Batches.{flags};
+ghost use Rattle.floor.specs.Batches.{flags};
 ghost use Rattle.marks.specs.Standing.{Standing, mood, sooner};
 ghost use Rattle.model.specs.Batch.{Batch};
 ghost use Rattle.model.specs.Corner.{Bits, number, quadrant, sees};
@@ -47,7 +47,7 @@ fn quadrant(p: u64, q: u64) -> Corner
 }
 
 // Whether p lies in the visible quadrant of q, which has this status.
-fn sees(p: u64, q: u64, status: u8) -> bool
+pub fn sees(p: u64, q: u64, status: u8) -> bool
     ensures { λ r. ⌜ ((b : Bits) → status ≡ number b → r ≡ sees p q b) ⌝ }
 {
     if p / 4294967296 == q / 4294967296 {

@@ -14,7 +14,7 @@ ghost use Rattle.table.specs.Tables.{All};
 ghost use Rattle.sight.specs.Codes.{blockCode};
 
 // The square of width 2r at the centre of k.
-pub(crate) fn square_at(size: f64, radius: f64, cells: &[u64], k: u64) -> u64
+pub fn square_at(size: f64, radius: f64, cells: &[u64], k: u64) -> u64
     ensures { λ r. ⌜ (AscL 0 (now (cells .entry)) → All (Inside maxCoordinate) (now (cells .entry)) → r ≡ blockCode (tests size radius .square (now (cells .entry)) k .cell)) ⌝ }
 {
     let found = search(size, cells, Question::Square(centre(k, size), 2.0 * radius));
@@ -22,7 +22,7 @@ pub(crate) fn square_at(size: f64, radius: f64, cells: &[u64], k: u64) -> u64
 }
 
 // The sweep of width 2r from the centre of p to that of q.
-pub(crate) fn sweep_between(size: f64, radius: f64, cells: &[u64], p: u64, q: u64) -> u64
+pub fn sweep_between(size: f64, radius: f64, cells: &[u64], p: u64, q: u64) -> u64
     ensures { λ r. ⌜ (AscL 0 (now (cells .entry)) → All (Inside maxCoordinate) (now (cells .entry)) → r ≡ blockCode (tests size radius .sweep (now (cells .entry)) p q .cell)) ⌝ }
 {
     let found = search(

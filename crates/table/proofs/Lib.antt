@@ -1,8 +1,6 @@
 -- The laws of crate `table`.
 pub mod AllLaws
 pub mod ColumnLaws
-pub mod CopyLaws
-pub mod FillLaws
 pub mod ListedLaws
 pub mod LookLaws
 pub mod RankLaws

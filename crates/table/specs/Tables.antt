@@ -54,8 +54,3 @@ pub record Changed (f : List ℕ → List ℕ) (t : List ℕ) (n : ℕ) (t′ : 
   pub table : Table t n → t′ ≡ pad (length t) (f (take n t))
   pub count : Table t n → r ≡ length (f (take n t))
   pub beyond : length t < n → (t′ ≡ t) × (r ≡ n)
-
--- l was written to the front of t, which became t′, if there was room
-pub record Copied (l t t′ : List ℕ) : Type 0 where
-  pub done : length l ≤ length t → t′ ≡ l ++ drop (length l) t
-  pub short : length t < length l → t′ ≡ t

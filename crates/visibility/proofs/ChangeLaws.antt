@@ -9,10 +9,10 @@ use lib.Dec.{ltb}
 use lib.IntN.{ℤ}
 use lib.ListN.{length, take}
 use borrow.Author.Tests.{lt-ltb, le-ltb, ltb-false}
-use Rattle.grid.proofs.FloorLaws.{holds-cells}
+use Rattle.floor.proofs.FloorLaws.{holds-cells}
 use Rattle.grid.proofs.RefuseLaws.{apart}
-use Rattle.grid.specs.Batches.{entries}
-use Rattle.grid.specs.Floor as floor
+use Rattle.floor.specs.Batches.{entries}
+use Rattle.floor.specs.Floor as floor
 use Rattle.model.proofs.RunLaws.{passed}
 use Rattle.model.specs.Batch.{cellsAfter}
 use Rattle.model.specs.Limits.{maxBatch, maxCells, maxPoints}

@@ -9,7 +9,7 @@ use lib.Ieee.{Float}
 use lib.IntN.{ℤ}
 use lib.ListN.{drop, getD, length}
 use lib.Seq.{ext-getD, getD-drop}
-use Rattle.grid.specs.Batches.{entries}
+use Rattle.floor.specs.Batches.{entries}
 use Rattle.ieee.proofs.Tools.{lt-or-ge}
 use Rattle.model.specs.Limits.{maxCells, maxPoints}
 use Rattle.marks.specs.Marked.{statusesOf}

@@ -14,7 +14,6 @@ pub mod OpenLaws
 pub mod PadLaws
 pub mod PairLaws
 pub mod PlaceLaws
-pub mod RadiusLaws
 pub mod RebuildLaws
 pub mod RedrawLaws
 pub mod RefuseLaws

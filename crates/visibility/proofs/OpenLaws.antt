@@ -8,7 +8,7 @@ use lib.Dec.{ltb}
 use lib.Ieee.{Float}
 use lib.ListN.{drop, length, replicate, take}
 use borrow.Author.Tests.{le-ltb, ltb-false}
-use Rattle.grid.proofs.FloorLaws.{holds-none}
+use Rattle.floor.proofs.FloorLaws.{holds-none}
 use Rattle.grid.proofs.RefuseLaws.{apart}
 use Rattle.model.proofs.RunLaws.{Sound, open-sound}
 use Rattle.model.specs.Limits.{maxCells, maxPoints}

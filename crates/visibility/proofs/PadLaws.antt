@@ -7,7 +7,8 @@ use lib.ListN.{drop, length, length-append, replicate, take}
 use lib.Seq.{drop-at, take-append-seam}
 use Rattle.marks.proofs.PointsLaws.{drop-zeros}
 use Rattle.table.proofs.TableLaws.{pad-length}
-use Rattle.table.specs.Tables.{Copied, pad}
+use Rattle.copy.specs.Copied.{Copied}
+use Rattle.table.specs.Tables.{pad}
 
 -- a list written to the front of zeros
 pub padded : (l : List ℕ) (n cap : ℕ) → length l ≡ n → l ++ drop n (replicate cap 0) ≡ pad cap l

@@ -9,7 +9,7 @@ use lib.ListN.{length, length-replicate, replicate, take}
 use borrow.Author.Tests.{le-ltb, lt-ltb, ltb-false}
 use Rattle.corner.specs.Changes.{Inner, numbered}
 use Rattle.grid.proofs.ApplyLaws.{inside-inner}
-use Rattle.grid.proofs.FloorLaws.{holds-cells}
+use Rattle.floor.proofs.FloorLaws.{holds-cells}
 use Rattle.grid.proofs.RefuseLaws.{apart}
 use Rattle.marks.specs.Marked.{Marking}
 use Rattle.model.specs.Cell.{reach}

@@ -17,7 +17,8 @@ use Rattle.model.specs.Maps.{keys}
 use Rattle.sight.specs.Blocked.{Fitting, Seeing, Stood, codes, pointBlocks, wordsOf}
 use Rattle.sight.proofs.BlockLaws.{fitting-at, words-at, words-length}
 use Rattle.sight.proofs.PointLaws.{codes-length}
-use Rattle.table.specs.Tables.{Copied, pad}
+use Rattle.copy.specs.Copied.{Copied}
+use Rattle.table.specs.Tables.{pad}
 use Rattle.table.proofs.ListedLaws.{keys-length}
 use Rattle.table.proofs.TableLaws.{pad-length, pad-take}
 use Rattle.visibility.specs.Layers.{numbersOf}

@@ -8,7 +8,7 @@ use lib.ListN.{length}
 use lib.Ieee.{Float}
 use borrow.Author.Tests.{lt-ltb, le-ltb}
 use Rattle.grid.proofs.RefuseLaws.{apart}
-use Rattle.grid.specs.Batches as grid
+use Rattle.floor.specs.Batches as grid
 use Rattle.model.specs.Map.{Entry}
 use Rattle.model.specs.Refusal.{badRadius, badSize, firstOf, outside, short, unsorted, verdict}
 use Rattle.visibility.specs.Change.{refuseBatch}

@@ -12,7 +12,7 @@ use Rattle.ieee.proofs.Tools.{lt-or-ge}
 use Rattle.model.specs.Limits.{maxPoints}
 use Rattle.sight.specs.Codes.{pairCode}
 use Rattle.sight.specs.Paired.{Filled, Pairs, PairsNamed, pairPlace, pairPlaces}
-use Rattle.table.specs.Tables.{Copied}
+use Rattle.copy.specs.Copied.{Copied}
 use Rattle.visibility.specs.Redraw.{Below, InRows}
 use Rattle.visibility.proofs.ClearLaws.{cleared, cleared-at, cleared-drop, cleared-is, cleared-length, cleared-past}
 

@@ -6,7 +6,7 @@ use mathlib.Core.List.{List, [], _∷_}
 use lib.Dec.{ltb}
 use lib.Ieee.{Float, eq, le, lt}
 use Rattle.model.specs.Map as model
-use Rattle.grid.specs.Batches.{entries}
+use Rattle.floor.specs.Batches.{entries}
 use Rattle.model.specs.Refusal.{badSize, judge, nothing, opened, refuseOpen, run, short, step, unless}
 use Rattle.model.proofs.RunLaws.{passed}
 use Rattle.visibility.specs.Change.{Lent, lentNeeds}

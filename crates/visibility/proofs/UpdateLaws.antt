@@ -10,9 +10,9 @@ use lib.IntN.{ℤ}
 use lib.ListN.{length, length-replicate, replicate, take}
 use borrow.Author.Tests.{ltb-false, ltb-true}
 use Rattle.corner.specs.Changes.{numbered}
-use Rattle.grid.specs.Batches.{entries, flags}
-use Rattle.grid.proofs.EntryLaws.{entries-length}
-use Rattle.grid.proofs.FloorLaws.{holds-cells}
+use Rattle.floor.specs.Batches.{entries, flags}
+use Rattle.floor.proofs.EntryLaws.{entries-length}
+use Rattle.floor.proofs.FloorLaws.{holds-cells}
 use Rattle.marks.specs.Marked.{Marking}
 use Rattle.model.specs.Batch.{cellsAfter, confirmed, cornerChanges}
 use Rattle.model.specs.Cell.{reach}

@@ -7,8 +7,8 @@ use lib.Dec.{ltb}
 use lib.IntN.{ℤ}
 use lib.ListN.{length}
 use Rattle.corner.specs.Changes.{numbered}
-use Rattle.grid.specs.Batches.{entries, flags}
-use Rattle.grid.specs.Floor as floor
+use Rattle.floor.specs.Batches.{entries, flags}
+use Rattle.floor.specs.Floor as floor
 use Rattle.model.specs.Batch.{cellsAfter, confirmed, cornerChanges}
 use Rattle.model.specs.Limits.{maxBatch, maxCells, maxPoints, needConfirmed, needCorners}
 use Rattle.model.specs.Map as model

@@ -3,7 +3,7 @@ use Prim.Native.Nat.{ℕ}
 use mathlib.Core.Path.{_≡_}
 use mathlib.Core.List.{List, [], _∷_}
 use lib.ListN.{drop, length}
-use Rattle.grid.specs.Floor as floor
+use Rattle.floor.specs.Floor as floor
 use Rattle.model.specs.Good.{Good}
 use Rattle.model.specs.Limits.{maxCells, maxPoints}
 use Rattle.model.specs.Map as model

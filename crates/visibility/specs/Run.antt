@@ -5,7 +5,7 @@ use mathlib.Core.Bool.{false}
 use mathlib.Core.List.{List, [], _∷_}
 use lib.IntN.{ℤ}
 use lib.Ieee.{Float}
-use Rattle.grid.specs.Batches.{entries}
+use Rattle.floor.specs.Batches.{entries}
 use Rattle.model.specs.Map as model
 use Rattle.model.specs.Refusal.{short}
 use Rattle.visibility.specs.Change.{Changing, Lent, lentNeeds}

@@ -1,36 +1,9 @@
-// Refusals that a map's numbers alone decide (document 01, refusals 9, 1 and 2), and the shift.
+// The refusal 9 of a map's tables (document 01).
 ghost use mathlib.Core.Path.{_≡_};
 ghost use mathlib.Core.List.{[], _∷_};
 ghost use Rattle.model.specs.Limits.{maxCells, maxPoints};
-ghost use Rattle.model.specs.Cell.{reach};
-ghost use Rattle.model.specs.Map.{shiftOf};
-ghost use Rattle.model.specs.Refusal.{badRadius, short};
+ghost use Rattle.model.specs.Refusal.{short};
 ghost use Rattle.sight.specs.Paired.{pairPlaces};
-
-// 2: the radius. Minus zero passes.
-pub fn bad_radius(size: f64, radius: f64) -> bool
-    ensures { λ r. ⌜ r ≡ badRadius size radius ⌝ }
-{
-    if 0.0 <= radius && radius < f64::from_bits(9218868437227405312) {
-        return 64 < ieee::whole::ceil_to_i64(radius / size + 0.5);
-    }
-    true
-}
-
-// s = ceil(r/c + 0.5) (`calculate_cell_shift`)
-pub fn shift_of(size: f64, radius: f64) -> u64
-    ensures { λ r. ⌜ r ≡ shiftOf size radius ⌝ }
-{
-    let s = ieee::whole::ceil_to_i64(radius / size + 0.5);
-    if s < 0 { 0 } else { s as u64 }
-}
-
-// How far a cell of the shift s blocks a point.
-pub(crate) fn reach_of(s: u64) -> u64
-    ensures { λ r. ⌜ r ≡ reach s ⌝ }
-{
-    if s == 0 { 0 } else { s - 1 }
-}
 
 // 9: whether one of a map's tables is short of its need.
 pub(crate) fn short_tables(

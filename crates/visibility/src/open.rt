@@ -1,12 +1,12 @@
 // Opening a map.
-use crate::judge::bad_radius;
 use crate::judge::short_tables;
 use crate::map::Map;
 use crate::map::Outcome;
 use crate::map::refused;
-use grid::judge::bad_size;
-use table::copy::clear;
-use table::copy::clear_bytes;
+use copy::bytes::clear_bytes;
+use copy::copy::clear;
+use floor::judge::bad_size;
+use floor::radius::bad_radius;
 ghost use Rattle.visibility.specs.Open.{Opening};
 
 // Clears the tables up to their fixed need.

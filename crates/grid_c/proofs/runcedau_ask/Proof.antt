@@ -5,9 +5,9 @@ use lib.ListN.{length}
 use lib.Seq.{length-take-le}
 use borrow.Author.Needs.{needs}
 use Rattle.model.specs.Shape.{Question, ask}
-use Rattle.question.specs.Ask.{refuseAsk}
+use Rattle.questions.specs.Ask.{refuseAsk}
 use Rattle.question.specs.Question.{asked}
-use Rattle.question.proofs.AskLaws.{ask-fits}
+use Rattle.questions.proofs.AskLaws.{ask-fits}
 use Rattle.grid_c.specs.Told.{told}
 use Rattle.grid_c.proofs.ToldLaws.{told-found, told-refused}
 use Rattle.grid_c.proofs.runcedau_ask.Statement.{statement}

@@ -1,8 +1,8 @@
 -- `batch::key_at` is the key of the two numbers. Assumes nothing.
 use Prim.Native.Nat.{_+_}
 use borrow.Author.Needs.{needs}
-use Rattle.grid.proofs.EntryLaws.{item}
-use Rattle.grid.proofs.SignedLaws.{back}
+use Rattle.floor.proofs.EntryLaws.{item}
+use Rattle.floor.proofs.SignedLaws.{back}
 use Rattle.grid.proofs.batch.key_at.Statement.{statement}
 use Rattle.grid.proofs.batch.key_at.Tie as tie
 

@@ -5,7 +5,7 @@ use mathlib.Core.Logic.{⊎-elim, inl, inr}
 use mathlib.Core.Bool.{Bool, false}
 use lib.Dec.{ltb}
 use lib.Seq.{length-take-le}
-use Rattle.grid.specs.Batches.{entries}
+use Rattle.floor.specs.Batches.{entries}
 use Rattle.model.specs.Refusal.{short}
 use Rattle.visibility.specs.Change.{Lent, lentNeeds, refuseBatch}
 use Rattle.visibility.specs.Holds as tables

@@ -5,7 +5,7 @@ use mathlib.Core.Path.{_≡_, sym}
 use lib.ListN.{length, take}
 use lib.Seq.{length-take-le}
 use borrow.Author.Needs.{needs}
-use Rattle.grid.specs.Batches.{entries}
+use Rattle.floor.specs.Batches.{entries}
 use Rattle.grid.proofs.ApplyLaws.{corners-listed}
 use Rattle.visibility.proofs.change.list_changes.Statement.{statement}
 use Rattle.visibility.proofs.change.list_changes.Tie as tie

@@ -1,0 +1,2 @@
+-- The laws of crate `circle`.
+pub mod CircleLaws

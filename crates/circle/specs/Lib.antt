@@ -1,0 +1,2 @@
+-- What the contracts of crate `circle` cite.
+pub mod Circle

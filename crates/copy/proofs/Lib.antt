@@ -1,0 +1,3 @@
+-- The laws of crate `copy`.
+pub mod CopyLaws
+pub mod FillLaws

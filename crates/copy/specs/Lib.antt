@@ -1,0 +1,2 @@
+-- What the contracts of crate `copy` cite.
+pub mod Copied

@@ -1,0 +1,3 @@
+// The corner changes of a batch.
+pub mod changes;
+mod window;

@@ -1,0 +1,2 @@
+-- The laws of crate `examples`.
+pub mod Longer

@@ -1,0 +1,45 @@
+-- Examples that take longer to compute than those that stand beside the model. Each holds of the definitions.
+use mathlib.Core.Path.{_≡_, refl}
+use Prim.Native.Nat.{ℕ}
+use mathlib.Core.List.{List, [], _∷_}
+use mathlib.Core.Option.{none, some}
+use lib.IntN.{pos, negsuc}
+use Rattle.model.specs.Layer.{edge}
+use Rattle.model.specs.Map.{Op}
+use Rattle.model.specs.Refusal.{refusals, opened}
+use Rattle.model.specs.Listing.{listing}
+use Rattle.model.specs.Borders.{answers, updates, blockers, AllNamed}
+use Rattle.model.specs.Examples.{c, num, at, after, ten, tenAgain, workedFile, workedListing}
+use Rattle.model.proofs.Examples.{everything}
+
+-- two runs of accepted operations, from the same opening to the same cells and radius, after which a pair is blocked and is not
+abbrev pub Remembered : Type 0
+Remembered =
+    (a b : List Op) × (refusals a (opened c (num (pos 200))) ≡ 0 ∷ 0 ∷ []) × (refusals b (opened c (num (pos 200))) ≡ 0 ∷ 0 ∷ 0 ∷ [])
+    × (after 200 a .cells ≡ after 200 b .cells) × (after 200 a .layer .radius ≡ after 200 b .layer .radius)
+    × (p q : ℕ) × (edge p q (after 200 a .layer .edges) ≡ some (some (at (negsuc 2) (pos 2)))) × (edge p q (after 200 b .layer .edges) ≡ some none)
+
+-- The worked map file gives the worked listing, byte for byte.
+pub worked-listing : listing workedFile ≡ workedListing
+unfolding everything
+worked-listing = refl
+
+-- Blockers have a history: where two runs end in the same cells and radius, a pair may still be blocked after one and open after the other (example 10).
+pub blockers-remember : Remembered
+unfolding everything
+blockers-remember = (ten, tenAgain, refl, refl, refl, refl, at (negsuc 1) (pos 2), at (pos 2) (pos 2), refl, refl)
+
+-- So are visibility, open pairs and neighbours.
+pub answers-hold : AllNamed answers
+unfolding everything
+answers-hold = (tt, (tt, tt))
+
+-- Pairs come, go and come back with the bits that hide them.
+pub updates-hold : AllNamed updates
+unfolding everything
+updates-hold = (tt, (tt, (tt, tt)))
+
+-- Blockers of stored pairs come and go with the cells.
+pub blockers-hold : AllNamed blockers
+unfolding everything
+blockers-hold = (tt, (tt, (tt, tt)))

@@ -1,0 +1,2 @@
+-- The laws of crate `extent`.
+pub mod SearchWalk

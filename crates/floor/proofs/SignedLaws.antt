@@ -1,0 +1,41 @@
+-- Signed numbers as the machine holds them, and the tests on coordinates. Assumes nothing.
+use Prim.Native.Nat.{zero, suc, _-_, _≤_, _<_, _^_}
+use native.Mathlib.Omega.{arith}
+use mathlib.Core.Path.{_≡_, refl}
+use mathlib.Core.Bool.{true, false, not, false≢true}
+use lib.Dec.{eqb}
+use lib.IntN.{ℤ, pos, negsuc}
+use lib.Signed.{leZ, ltZ, mag}
+use borrow.Author.Tests.{lt-ltb, le-ltb, ltb-true, ltb-false, ne-eqb}
+use mir.Syntax.{w64}
+use mir.Val.{SFits, toZ, ofZ}
+use mir.ValLaws.{toZ-ofZ}
+use Rattle.model.specs.Limits.{maxCoordinate}
+use Rattle.model.specs.Refusal.{offMap}
+use Rattle.floor.specs.Batches.{isFull}
+
+-- an element that was read is as it was
+pub back : (z : ℤ) → mag z < 2 ^ 63 → toZ w64 (ofZ w64 z) ≡ z
+back z h = toZ-ofZ w64 z (record { sfits = h })
+
+-- a test on two numbers' bits is the test on the numbers
+pub ltZ-bits : {a b : ℤ} → SFits w64 a → SFits w64 b → ltZ (toZ w64 (ofZ w64 a)) (toZ w64 (ofZ w64 b)) ≡ ltZ a b
+ltZ-bits {a} {b} f g = rw (toZ-ofZ w64 a f, toZ-ofZ w64 b g)
+
+pub leZ-bits : {a b : ℤ} → SFits w64 a → SFits w64 b → leZ (toZ w64 (ofZ w64 a)) (toZ w64 (ofZ w64 b)) ≡ leZ a b
+leZ-bits {a} {b} f g = rw (toZ-ofZ w64 a f, toZ-ofZ w64 b g)
+
+-- ---- beyond the batch coordinates: below them, or else above
+pub off-below : (z : ℤ) → ltZ z (negsuc 1048575) ≡ true → offMap maxCoordinate z ≡ true
+off-below (pos n) h = absurd (false≢true h)
+off-below (negsuc n) h = let l : 1048575 < n = ltb-true 1048575 n h in lt-ltb 1048576 (suc n) (omega arith)
+
+pub off-above : (z : ℤ) → ltZ z (negsuc 1048575) ≡ false → offMap maxCoordinate z ≡ ltZ (pos 1048576) z
+off-above (pos n) h = refl
+off-above (negsuc n) h = let l : n ≤ 1048575 = ltb-false 1048575 n h in le-ltb 1048576 (suc n) (omega arith)
+
+-- ---- any number but 0 says occupied; the machine looks at its bits
+pub not-zero : (z : ℤ) → mag z < 2 ^ 63 → not (eqb (ofZ w64 z) 0) ≡ isFull z
+not-zero (pos zero) h = refl
+not-zero (pos (suc n)) h = rw (ne-eqb (suc n) 0 (λ e. omega arith))
+not-zero (negsuc n) h = let l : n < 2 ^ 63 = h in rw (ne-eqb (2 ^ 64 - suc n) 0 (λ e. omega arith))

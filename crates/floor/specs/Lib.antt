@@ -1,0 +1,3 @@
+-- What the contracts of crate `floor` cite.
+pub mod Batches
+pub mod Floor

@@ -1,0 +1,2 @@
+// Keys put into a table, and taken out of it.
+pub mod change;

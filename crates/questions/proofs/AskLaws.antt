@@ -1,0 +1,93 @@
+-- A question's refusals in their order, and what a call of `ask` answers. Assumes nothing.
+use Prim.Native.Nat.{ℕ, _≤_, _<_}
+use mathlib.Core.Path.{_≡_, refl, sym, ap, _∙_, subst}
+use mathlib.Core.Bool.{Bool, true, false, cond, or-false}
+use mathlib.Core.List.{List}
+use mathlib.Core.Option.{Option, none, some}
+use lib.Dec.{ltb}
+use lib.ListN.{length, take}
+use lib.Ieee.{Float}
+use borrow.Author.Tests.{lt-ltb, le-ltb, ltb-false}
+use Rattle.model.specs.Good.{Inside}
+use Rattle.model.specs.Limits.{maxCoordinate}
+use Rattle.model.specs.Maps.{AscL}
+use Rattle.model.specs.Refusal.{firstOf, verdict, short, badSize, badQuestion}
+use Rattle.model.specs.Shape.{Question, ask}
+use Rattle.table.specs.Tables.{All}
+use Rattle.floor.specs.Floor.{Holds}
+use Rattle.floor.specs.declared.floor.Floor.{Floor}
+use Rattle.floor.proofs.FloorLaws.{holds-cells}
+use Rattle.grid.proofs.RefuseLaws.{apart}
+use Rattle.questions.specs.Ask.{Asked, cellAt, nowhere, placed, refuseAsk}
+use Rattle.question.specs.Question.{asked}
+use Rattle.question.specs.Walk.{found, foundAs, keyed}
+use Rattle.questions.specs.declared.ask.Answer.{Answer}
+use Rattle.question.specs.declared.search.Found.{Found}
+use Rattle.question.specs.declared.search.Question as code
+
+module _ (room : ℕ) (c : Float) (n : ℕ) (q : Question) where
+  in-turn : refuseAsk room c n q ≡ cond (ltb room 1024) 9 (cond (badSize c) 1 (cond (ltb 1024 n) 6 (cond (badQuestion q) 8 0)))
+  unfolding refuseAsk verdict firstOf short
+  in-turn = rw (or-false (ltb room 1024)) refl
+
+  pub ask-short : room < 1024 → 9 ≡ refuseAsk room c n q
+  ask-short h = rw (in-turn, lt-ltb room 1024 h) refl
+
+  module _ (h : 1024 ≤ room) where
+    pub ask-size : badSize c ≡ true → 1 ≡ refuseAsk room c n q
+    ask-size s = rw (in-turn, le-ltb room 1024 h, s) refl
+
+    module _ (s : badSize c ≡ false) where
+      pub ask-crowded : 1024 < n → 6 ≡ refuseAsk room c n q
+      ask-crowded w = rw (in-turn, le-ltb room 1024 h, s, lt-ltb 1024 n w) refl
+
+      module _ (w : n ≤ 1024) where
+        pub ask-query : badQuestion q ≡ true → 8 ≡ refuseAsk room c n q
+        ask-query b = rw (in-turn, le-ltb room 1024 h, s, le-ltb 1024 n w, b) refl
+
+        pub ask-good : badQuestion q ≡ false → 0 ≡ refuseAsk room c n q
+        ask-good b = rw (in-turn, le-ltb room 1024 h, s, le-ltb 1024 n w, b) refl
+
+  -- what is not refused fits
+  pub ask-fits : refuseAsk room c n q ≡ 0 → (1024 ≤ room) × (n ≤ 1024)
+  ask-fits e = go (ltb room 1024) (badSize c) (ltb 1024 n) refl refl (sym in-turn ∙ e)
+    where
+      go : (a b d : Bool) → ltb room 1024 ≡ a → ltb 1024 n ≡ d → _≡_ {A = ℕ} (cond a 9 (cond b 1 (cond d 6 (cond (badQuestion q) 8 0)))) 0 → (1024 ≤ room) × (n ≤ 1024)
+      go true b d u v z = absurd (apart z)
+      go false true d u v z = absurd (apart z)
+      go false false true u v z = absurd (apart z)
+      go false false false u v z = (ltb-false room 1024 u, ltb-false 1024 n v)
+
+-- ---- what was found, on a floor that holds its cells
+pub search-told : (c : Float) (t : List ℕ) (n : ℕ) (q : Question) (o : Found)
+    → (AscL 0 (take n t) → All (Inside maxCoordinate) (take n t) → o ≡ foundAs (ask c (take n t) q)) → (C : List ℕ) → Holds t n C → o ≡ foundAs (ask c C q)
+search-told c t n q o f C h =
+    let same = holds-cells t n C h in
+    f (subst (AscL 0) (sym same) (h .order)) (subst (All (Inside maxCoordinate)) (sym same) (h .inside)) ∙ ap (λ (D : List ℕ). foundAs (ask c D q)) same
+
+-- and read back
+found-back : (o : Option ℕ) → found (keyed o) .cell ≡ o
+found-back none = refl
+found-back (some k) = refl
+
+-- ---- the call: r is what it answers
+module _ (floor : Floor) (t : List ℕ) (q : code.Question) (r : Answer) where
+  abbrev due : ℕ
+  due = refuseAsk (length t) (floor .size) (floor .cells) (asked q)
+
+  pub ask-refused : (m : ℕ) → (m ≡ 0 → ⊥) → m ≡ due → r ≡ nowhere m → Asked floor t q r
+  ask-refused m not-zero e f = record {
+    refusal = number ∙ e;
+    refused = λ n s. f ∙ ap nowhere (sym number ∙ s);
+    answer = λ C h z. absurd (not-zero (sym number ∙ z));
+  }
+    where
+      number : r .refusal ≡ m
+      number = ap (λ (a : Answer). a .refusal) f
+
+  pub ask-answered : (o : Found) → 0 ≡ due → r .refusal ≡ 0 → placed (r .cell) ≡ cellAt (found o .cell)
+      → (AscL 0 (take (floor .cells) t) → All (Inside maxCoordinate) (take (floor .cells) t) → o ≡ foundAs (ask (floor .size) (take (floor .cells) t) (asked q))) → Asked floor t q r
+  ask-answered o e z p f = record { refusal = z ∙ e; refused = λ n s. absurd (apart (sym s ∙ z)); answer = λ C h w. p ∙ ap cellAt (seen C h) }
+    where
+      seen : (C : List ℕ) → Holds t (floor .cells) C → found o .cell ≡ ask (floor .size) C (asked q) .cell
+      seen C h = ap (λ (v : Found). found v .cell) (search-told (floor .size) t (floor .cells) (asked q) o f C h) ∙ found-back (ask (floor .size) C (asked q) .cell)

@@ -1,0 +1,4 @@
+-- The laws of crate `questions`.
+pub mod AskLaws
+pub mod Determinate
+pub mod NumberLaws

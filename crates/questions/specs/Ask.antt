@@ -1,0 +1,55 @@
+-- A question put to a floor: its refusals and its answer. Definitions only.
+use Prim.Native.Nat.{ℕ, suc}
+use mathlib.Core.Path.{_≡_}
+use mathlib.Core.Bool.{false}
+use mathlib.Core.List.{List, [], _∷_}
+use mathlib.Core.Option.{Option, none, some}
+use lib.Dec.{ltb}
+use lib.IntN.{ℤ}
+use lib.ListN.{length}
+use lib.Ieee.{Float}
+use Rattle.model.specs.Cell.{xOf, yOf}
+use Rattle.model.specs.Limits.{maxCells}
+use Rattle.model.specs.Refusal.{verdict, short, badSize, badQuestion}
+use Rattle.model.specs.Shape.{ask}
+use Rattle.model.specs.Shape as model
+use Rattle.floor.specs.Floor.{Holds}
+use Rattle.floor.specs.declared.floor.Floor.{Floor}
+use Rattle.question.specs.Question.{asked}
+use Rattle.questions.specs.declared.ask.Answer.{Answer}
+use Rattle.questions.specs.declared.ask.Place.{Place}
+use Rattle.question.specs.declared.search.Question.{Question}
+
+-- the paper's values: a cell, or none
+abbrev pub placed : Place → Option (ℤ × ℤ)
+placed Place.Nothing = none
+placed (Place.At c) = some (c .x, c .y)
+
+abbrev pub cellAt : Option ℕ → Option (ℤ × ℤ)
+cellAt none = none
+cellAt (some k) = some (xOf k, yOf k)
+
+-- the model's refusals of a question, for a floor of which no layer is asked: the lent places, the cell size, how many cells there are
+unfoldable pub refuseAsk : ℕ → Float → ℕ → model.Question → ℕ
+refuseAsk room c n q =
+    verdict
+    (record {
+      short = short ((room, maxCells) ∷ []);
+      size = badSize c;
+      radius = false;
+      long = false;
+      disorder = false;
+      outside = false;
+      cells = ltb maxCells n;
+      points = false;
+      query = badQuestion q;
+    })
+
+-- a refused call answers its number, and nothing else
+abbrev pub nowhere : ℕ → Answer
+nowhere n = record { refusal = n; cell = Place.Nothing }
+
+pub record Asked (floor : Floor) (t : List ℕ) (q : Question) (r : Answer) : Type 0 where
+  pub refusal : r .refusal ≡ refuseAsk (length t) (floor .size) (floor .cells) (asked q)
+  pub refused : (n : ℕ) → r .refusal ≡ suc n → r ≡ nowhere (suc n)
+  pub answer : (C : List ℕ) → Holds t (floor .cells) C → r .refusal ≡ 0 → placed (r .cell) ≡ cellAt (ask (floor .size) C (asked q) .cell)

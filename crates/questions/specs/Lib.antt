@@ -1,0 +1,2 @@
+-- What the contracts of crate `questions` cite.
+pub mod Ask

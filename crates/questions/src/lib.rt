@@ -1,0 +1,3 @@
+// The question as it is put to a floor, with its refusals.
+pub mod ask;
+pub mod judge;
