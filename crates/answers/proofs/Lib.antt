@@ -1,0 +1,4 @@
+-- The laws of crate `answers`.
+pub mod EdgeLaws
+pub mod ListingLaws
+pub mod RefuseLaws

@@ -1,0 +1,2 @@
+-- What the contracts of crate `answers` cite.
+pub mod Asking

@@ -1,0 +1,86 @@
+// The refusals of a call that leaves the map as it is.
+use floor::cell::Cell;
+use floor::judge::bad_size;
+use floor::radius::bad_radius;
+use visibility::map::Map;
+ghost use mathlib.Core.Path.{_≡_};
+ghost use mathlib.Core.Bool.{_||_};
+ghost use lib.Dec.{ltb};
+ghost use Prim.Native.Nat.{_+_};
+ghost use Rattle.model.specs.Limits.{beyond, maxCoordinate};
+ghost use Rattle.model.specs.Refusal.{offMap};
+ghost use Rattle.answers.specs.Asking.{refuseMap, refusedWith};
+
+// 0 and how many there are; or the refusal's number, and 0.
+pub struct Count {
+    pub refusal: u8,
+    pub count: usize,
+}
+
+pub fn refused(number: u8) -> Count
+    ensures { λ r. ⌜ r ≡ refusedWith number ⌝ }
+{
+    Count {
+        refusal: number,
+        count: 0,
+    }
+}
+
+// 9: whether this table is short of its need, or one of the rest is.
+pub fn lacks(length: usize, need: usize, rest: bool) -> bool
+    ensures { λ r. ⌜ r ≡ (ltb length need || rest) ⌝ }
+{
+    if length < need {
+        return true;
+    }
+    rest
+}
+
+// Whether a coordinate is more than 64 beyond those of a batch.
+fn beyond_edge(z: i64) -> bool
+    ensures { λ r. ⌜ r ≡ offMap (maxCoordinate + beyond) z ⌝ }
+{
+    if z < -1048640 {
+        return true;
+    }
+    1048640 < z
+}
+
+// 5: whether a cell named in a question is.
+pub fn off_edge(cell: Cell) -> bool
+    ensures { λ r. ⌜ r ≡ (offMap (maxCoordinate + beyond) (cell .x) || offMap (maxCoordinate + beyond) (cell .y)) ⌝ }
+{
+    if beyond_edge(cell.x) {
+        return true;
+    }
+    beyond_edge(cell.y)
+}
+
+// Which refusal is due, where `short` says whether a lent table is short, `off` whether a coordinate is outside and `bad`
+// whether a query number is.
+pub fn refuse(short: bool, map: Map, off: bool, bad: bool) -> u8
+    ensures { λ r. ⌜ r ≡ refuseMap short map off bad ⌝ }
+{
+    if short {
+        return 9;
+    }
+    if bad_size(map.size) {
+        return 1;
+    }
+    if bad_radius(map.size, map.radius) {
+        return 2;
+    }
+    if off {
+        return 5;
+    }
+    if 1024 < map.cells {
+        return 6;
+    }
+    if 64 < map.points {
+        return 7;
+    }
+    if bad {
+        return 8;
+    }
+    0
+}

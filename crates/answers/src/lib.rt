@@ -1,0 +1,2 @@
+// What every call has in common that leaves the map as it is: how it is refused, and how many things it lists.
+pub mod judge;
