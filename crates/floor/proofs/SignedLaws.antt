@@ -1,5 +1,5 @@
 -- Signed numbers as the machine holds them, and the tests on coordinates. Assumes nothing.
-use Prim.Native.Nat.{zero, suc, _-_, _≤_, _<_, _^_}
+use Prim.Native.Nat.{ℕ, zero, suc, _-_, _≤_, _<_, _^_}
 use native.Mathlib.Omega.{arith}
 use mathlib.Core.Path.{_≡_, refl}
 use mathlib.Core.Bool.{true, false, not, false≢true}
@@ -10,7 +10,6 @@ use borrow.Author.Tests.{lt-ltb, le-ltb, ltb-true, ltb-false, ne-eqb}
 use mir.Syntax.{w64}
 use mir.Val.{SFits, toZ, ofZ}
 use mir.ValLaws.{toZ-ofZ}
-use Rattle.model.specs.Limits.{maxCoordinate}
 use Rattle.model.specs.Refusal.{offMap}
 use Rattle.floor.specs.Batches.{isFull}
 
@@ -25,14 +24,14 @@ ltZ-bits {a} {b} f g = rw (toZ-ofZ w64 a f, toZ-ofZ w64 b g)
 pub leZ-bits : {a b : ℤ} → SFits w64 a → SFits w64 b → leZ (toZ w64 (ofZ w64 a)) (toZ w64 (ofZ w64 b)) ≡ leZ a b
 leZ-bits {a} {b} f g = rw (toZ-ofZ w64 a f, toZ-ofZ w64 b g)
 
--- ---- beyond the batch coordinates: below them, or else above
-pub off-below : (z : ℤ) → ltZ z (negsuc 1048575) ≡ true → offMap maxCoordinate z ≡ true
-off-below (pos n) h = absurd (false≢true h)
-off-below (negsuc n) h = let l : 1048575 < n = ltb-true 1048575 n h in lt-ltb 1048576 (suc n) (omega arith)
+-- ---- beyond a bound either way: below it, or else above
+pub off-below : (m : ℕ) (z : ℤ) → ltZ z (negsuc m) ≡ true → offMap (suc m) z ≡ true
+off-below m (pos n) h = absurd (false≢true h)
+off-below m (negsuc n) h = let l : m < n = ltb-true m n h in lt-ltb (suc m) (suc n) (omega arith)
 
-pub off-above : (z : ℤ) → ltZ z (negsuc 1048575) ≡ false → offMap maxCoordinate z ≡ ltZ (pos 1048576) z
-off-above (pos n) h = refl
-off-above (negsuc n) h = let l : n ≤ 1048575 = ltb-false 1048575 n h in le-ltb 1048576 (suc n) (omega arith)
+pub off-above : (m : ℕ) (z : ℤ) → ltZ z (negsuc m) ≡ false → offMap (suc m) z ≡ ltZ (pos (suc m)) z
+off-above m (pos n) h = refl
+off-above m (negsuc n) h = let l : n ≤ m = ltb-false m n h in le-ltb (suc m) (suc n) (omega arith)
 
 -- ---- any number but 0 says occupied; the machine looks at its bits
 pub not-zero : (z : ℤ) → mag z < 2 ^ 63 → not (eqb (ofZ w64 z) 0) ≡ isFull z

@@ -23,8 +23,8 @@ mul-t c = omega arith
 slice-write-t : tie.Need-slice-write-t Inv-loop μ-loop
 slice-write-t c = omega arith
 
-add-i : tie.Need-add-i Inv-loop μ-loop
-add-i c = omega arith
+add-at : tie.Need-add-at Inv-loop μ-loop
+add-at c = omega arith
 
 loop-less : tie.Need-loop-less Inv-loop μ-loop
 loop-less c = omega arith
@@ -33,7 +33,7 @@ loop-again : tie.Need-loop-again Inv-loop μ-loop
 loop-again c =
     let t = c .before .before .args .t .now in
     let l = c .before .loop in
-    (omega arith, length-set (l .t) (l .i) 0 ∙ l .inv .1, ap (λ (u : List ℕ). set u (l .i) 0) (l .inv .2) ∙ filled-more t (l .i) (let e = l .inv .1 in omega (arith, c .loop-test .taken)))
+    (omega arith, length-set (l .t) (l .at) 0 ∙ l .inv .1, ap (λ (u : List ℕ). set u (l .at) 0) (l .inv .2) ∙ filled-more t (l .at) (let e = l .inv .1 in omega (arith, c .loop-test .taken)))
 
 same-length : tie.Need-same-length Inv-loop μ-loop
 same-length c = omega arith
@@ -42,7 +42,7 @@ returns : tie.Need-returns Inv-loop μ-loop
 returns c =
     let l = c .before .loop in
     let t = c .before .before .args .t .now in
-    l .inv .2 ∙ filled-done t (l .i) (omega (arith, l .inv .0, l .inv .1, c .loop-test .left))
+    l .inv .2 ∙ filled-done t (l .at) (omega (arith, l .inv .0, l .inv .1, c .loop-test .left))
 
 pub clear-spec : {M : Type 1} → statement M
-clear-spec = tie.close (tie.spec Inv-loop μ-loop loop-holds mul-t slice-write-t add-i loop-less loop-again same-length returns)
+clear-spec = tie.close (tie.spec Inv-loop μ-loop loop-holds mul-t slice-write-t add-at loop-less loop-again same-length returns)
