@@ -2,8 +2,9 @@
 use Prim.Native.Nat.{ℕ, zero, suc}
 use native.Mathlib.Omega.{arith}
 use mathlib.Core.Path.{_≡_, refl, sym, ap, subst, _∙_}
-use mathlib.Core.List.{List, [], _∷_, _++_}
-use lib.ListN.{drop, length}
+use mathlib.Core.List.{List, [], _∷_}
+use mathlib.Core.Logic.{_⊎_, ⊎-elim}
+use lib.ListN.{length}
 use Rattle.model.specs.Map as model
 use Rattle.answers.specs.Asking.{Listing, Output, Untouched, Written, refusedWith}
 use Rattle.answers.specs.declared.judge.Count.{Count}
@@ -64,3 +65,12 @@ module _ (n : ℕ) (Hold : model.Map → Type 0) (o p : Output) (os ps : List Ou
   -- where it is refused, whatever the tables hold
   pub refused-one : Listing n Hold (o ∷ os) r → Listing n Hold (p ∷ ps) q → (k : ℕ) → n ≡ suc k → (r ≡ q) × Equal (o ∷ os) (p ∷ ps)
   refused-one x y k e = (x .refused k e .0 ∙ sym (y .refused k e .0), untouched-one (o ∷ os) (p ∷ ps) a (x .refused k e .1) (y .refused k e .1))
+
+-- ---- both cases in one
+-- the tables hold a map, or the refusal n is due
+abbrev pub Settled : ℕ → (model.Map → Type 0) → Type 0
+Settled n Hold = ((M : model.Map) × Hold M) ⊎ ((k : ℕ) × (n ≡ suc k))
+
+module _ (n : ℕ) (Hold : model.Map → Type 0) where
+  pub list-one : (o p : Output) (os ps : List Output) (r q : Count) → Alike (o ∷ os) (p ∷ ps) → Listing n Hold (o ∷ os) r → Listing n Hold (p ∷ ps) q → Settled n Hold → (r ≡ q) × Equal (o ∷ os) (p ∷ ps)
+  list-one o p os ps r q a u v = ⊎-elim (λ h. listing-one n Hold o p os ps r q a u v (h .0) (h .1)) (λ k. refused-one n Hold o p os ps r q a u v (k .0) (k .1))

@@ -22,6 +22,7 @@ use Rattle.questions.specs.Ask.{Asked, cellAt, nowhere, placed, refuseAs
 use Rattle.question.specs.Question.{asked}
 use Rattle.question.specs.Walk.{found, foundAs, keyed}
 use Rattle.questions.specs.declared.ask.Answer.{Answer}
+use Rattle.questions.specs.declared.ask.Place.{Place}
 use Rattle.question.specs.declared.search.Found.{Found}
 use Rattle.question.specs.declared.search.Question as code
 
@@ -70,6 +71,11 @@ found-back : (o : Option ℕ) → found (keyed o) .cell ≡ o
 found-back none = refl
 found-back (some k) = refl
 
+pub search-placed : (c : Float) (t : List ℕ) (n : ℕ) (q : Question) (o : Found) (p : Place) → placed p ≡ cellAt (found o .cell)
+    → (AscL 0 (take n t) → All (Inside maxCoordinate) (take n t) → o ≡ foundAs (ask c (take n t) q)) → (C : List ℕ) → Holds t n C → placed p ≡ cellAt (ask c C q .cell)
+search-placed c t n q o p e f C h =
+    e ∙ ap cellAt (ap (λ (v : Found). found v .cell) (search-told c t n q o f C h) ∙ found-back (ask c C q .cell))
+
 -- ---- the call: r is what it answers
 module _ (floor : Floor) (t : List ℕ) (q : code.Question) (r : Answer) where
   abbrev due : ℕ
@@ -87,7 +93,5 @@ module _ (floor : Floor) (t : List ℕ) (q : code.Question) (r : Answer) where
 
   pub ask-answered : (o : Found) → 0 ≡ due → r .refusal ≡ 0 → placed (r .cell) ≡ cellAt (found o .cell)
       → (AscL 0 (take (floor .cells) t) → All (Inside maxCoordinate) (take (floor .cells) t) → o ≡ foundAs (ask (floor .size) (take (floor .cells) t) (asked q))) → Asked floor t q r
-  ask-answered o e z p f = record { refusal = z ∙ e; refused = λ n s. absurd (apart (sym s ∙ z)); answer = λ C h w. p ∙ ap cellAt (seen C h) }
-    where
-      seen : (C : List ℕ) → Holds t (floor .cells) C → found o .cell ≡ ask (floor .size) C (asked q) .cell
-      seen C h = ap (λ (v : Found). found v .cell) (search-told (floor .size) t (floor .cells) (asked q) o f C h) ∙ found-back (ask (floor .size) C (asked q) .cell)
+  ask-answered o e z p f =
+      record { refusal = z ∙ e; refused = λ n s. absurd (apart (sym s ∙ z)); answer = λ C h w. search-placed (floor .size) t (floor .cells) (asked q) o (r .cell) p f C h }

@@ -22,12 +22,15 @@ back-placed : (p : Place) → back (placed p) ≡ p
 back-placed Place.Nothing = refl
 back-placed (Place.At c) = refl
 
+pub place-one : (p q : Place) → placed p ≡ placed q → p ≡ q
+place-one p q e = sym (back-placed p) ∙ ap back e ∙ back-placed q
+
 module _ (floor : Floor) (t : List ℕ) (q : Question) (r₁ r₂ : Answer) (C : List ℕ) (h : Holds t (floor .cells) C) where
   pub ask-one : Asked floor t q r₁ → Asked floor t q r₂ → r₁ ≡ r₂
   ask-one x y = go (refuseAsk (length t) (floor .size) (floor .cells) (asked q)) (x .refusal) (y .refusal)
     where
       go : (n : ℕ) → r₁ .refusal ≡ n → r₂ .refusal ≡ n → r₁ ≡ r₂
       go zero a b =
-          let cell : r₁ .cell ≡ r₂ .cell = sym (back-placed (r₁ .cell)) ∙ ap back (x .answer C h a ∙ sym (y .answer C h b)) ∙ back-placed (r₂ .cell) in
+          let cell : r₁ .cell ≡ r₂ .cell = place-one (r₁ .cell) (r₂ .cell) (x .answer C h a ∙ sym (y .answer C h b)) in
           rw (a ∙ sym b, cell) refl
       go (suc n) a b = x .refused n a ∙ sym (y .refused n b)

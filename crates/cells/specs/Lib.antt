@@ -1,0 +1,2 @@
+-- What the contracts of crate `cells` cite.
+pub mod Found

@@ -1,0 +1,3 @@
+// What may be asked of a map's cells.
+pub mod ask;
+pub mod cells;
