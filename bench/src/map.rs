@@ -1,4 +1,5 @@
-//! The archive of `rt staticlib visibility_c`: a map with the tables that it is lent.
+//! The archives of `rt staticlib visibility_c` and `views_c`: a map with the tables that it is lent.
+use oracle::occupancy::Cell;
 use oracle::question::Entry;
 
 unsafe extern "C" {
@@ -63,6 +64,38 @@ unsafe extern "C" {
         counts: *mut u64,
         counts_len: usize,
     ) -> u8;
+    fn runcedau_neighbours(
+        size: f64,
+        radius: f64,
+        count: usize,
+        many: usize,
+        cells: *const u64,
+        cells_len: usize,
+        x: i64,
+        y: i64,
+        out: *mut u64,
+        out_len: usize,
+    ) -> u64;
+    fn runcedau_visibility(
+        size: f64,
+        radius: f64,
+        count: usize,
+        many: usize,
+        cells: *const u64,
+        cells_len: usize,
+        points: *const u64,
+        points_len: usize,
+        statuses: *const u8,
+        statuses_len: usize,
+        blockers: *const u64,
+        blockers_len: usize,
+        pairs: *const u64,
+        pairs_len: usize,
+        x: i64,
+        y: i64,
+        out: *mut u64,
+        out_len: usize,
+    ) -> u64;
 }
 
 /// All that is lent: equal maps have equal bytes.
@@ -201,6 +234,57 @@ impl ProvedMap {
             self.many = self.counts[0] as usize;
         }
         refusal
+    }
+
+    /// The keys at the front of `out`, where the call is not refused.
+    fn listed(answer: u64, out: &[u64; 64]) -> &[u64] {
+        &out[..answer as usize]
+    }
+
+    pub fn neighbors<'a>(&self, of_cell: &Cell, out: &'a mut [u64; 64]) -> &'a [u64] {
+        // SAFETY: as above.
+        let answer = unsafe {
+            runcedau_neighbours(
+                self.size,
+                self.radius,
+                self.count,
+                self.many,
+                self.cells.as_ptr(),
+                self.cells.len(),
+                of_cell.x,
+                of_cell.y,
+                out.as_mut_ptr(),
+                out.len(),
+            )
+        };
+        Self::listed(answer, out)
+    }
+
+    pub fn calculate_visibility<'a>(&self, cell: &Cell, out: &'a mut [u64; 64]) -> &'a [u64] {
+        // SAFETY: as above.
+        let answer = unsafe {
+            runcedau_visibility(
+                self.size,
+                self.radius,
+                self.count,
+                self.many,
+                self.cells.as_ptr(),
+                self.cells.len(),
+                self.points.as_ptr(),
+                self.points.len(),
+                self.statuses.as_ptr(),
+                self.statuses.len(),
+                self.blockers.as_ptr(),
+                self.blockers.len(),
+                self.pairs.as_ptr(),
+                self.pairs.len(),
+                cell.x,
+                cell.y,
+                out.as_mut_ptr(),
+                out.len(),
+            )
+        };
+        Self::listed(answer, out)
     }
 
     pub fn cells(&self) -> &[u64] {

@@ -1,32 +1,47 @@
--- What a call has passed that is not refused, and what its tests of lengths say. Assumes nothing.
+-- What is known once a call has passed its checks, and what its tests of lengths say. Assumes nothing.
 use Prim.Native.Nat.{ℕ, _≤_}
-use mathlib.Core.Path.{_≡_, refl, ap, _∙_}
-use mathlib.Core.Bool.{Bool, false, _||_}
+use mathlib.Core.Path.{_≡_, refl, sym, ap, _∙_}
+use mathlib.Core.Bool.{Bool, true, false, _||_, true≢false}
 use mathlib.Core.List.{List, [], _∷_}
 use lib.Dec.{ltb}
-use borrow.Author.Tests.{le-ltb, ltb-false}
+use borrow.Author.Tests.{ltb-false}
 use Rattle.model.proofs.RunLaws as model
 use Rattle.model.specs.Refusal.{short}
 use Rattle.visibility.proofs.OpenLaws as tables
 use Rattle.visibility.specs.declared.map.Map.{Map}
 use Rattle.answers.specs.Asking.{refuseMap}
 
+-- no table is short, no coordinate is outside, no query number bad, and there are no more cells and points than there may be
 pub passed : (s : Bool) (m : Map) (off bad : Bool) → refuseMap s m off bad ≡ 0 → (s ≡ false) × (off ≡ false) × (m .cells ≤ 1024) × (m .points ≤ 64) × (bad ≡ false)
 unfolding refuseMap
 passed s m off bad e =
     let p = model.passed _ e in
     (p .short, p .outside, ltb-false 1024 (m .cells) (p .cells), ltb-false 64 (m .points) (p .points), p .query)
 
--- no table is short: not the first, and none of the rest
+-- the number k was answered, and it is none of a refused call: each lent table has its need
+pub accepted : (lent : List (ℕ × ℕ)) (m : Map) (off bad : Bool) (k : ℕ) → k ≡ refuseMap (short lent) m off bad → k ≡ 0 → tables.Enough lent × (m .cells ≤ 1024) × (m .points ≤ 64)
+accepted lent m off bad k e z =
+    let p = passed (short lent) m off bad (sym e ∙ z) in
+    (tables.long-enough lent (p .0), p .2, p .3)
+
+-- the refusal, of what the tests said
+pub refused-as : (n : ℕ) (s s′ : Bool) (m : Map) (off off′ bad : Bool) → n ≡ refuseMap s m off bad → s ≡ s′ → off ≡ off′ → n ≡ refuseMap s′ m off′ bad
+refused-as n s s′ m off off′ bad e f g = e ∙ rw (f, g) refl
+
+-- ---- a lent length with its need, before the rest
+pub or-parts : (a b : Bool) → a || b ≡ false → (a ≡ false) × (b ≡ false)
+or-parts true b e = absurd (true≢false e)
+or-parts false b e = (refl, e)
+
 pub long-enough : (n need : ℕ) (l : List (ℕ × ℕ)) → short ((n, need) ∷ l) ≡ false → (need ≤ n) × (short l ≡ false)
 unfolding short
-long-enough n need l e = let h = tables.long-enough ((n, need) ∷ l) e .0 in (h, rw (le-ltb n need h) at e)
+long-enough n need l e = let p = or-parts (ltb n need) (short l) e in (ltb-false n need (p .0), p .1)
 
--- a call of `lacks` upon another
+-- as the calls of `lacks` add them up, from the last
 pub none-short : false ≡ short []
 unfolding short
 none-short = refl
 
-pub lacks-short : (n need : ℕ) (l : List (ℕ × ℕ)) (r b : Bool) → r ≡ (ltb n need || b) → b ≡ short l → r ≡ short ((n, need) ∷ l)
+pub lacks-short : (n need : ℕ) (l : List (ℕ × ℕ)) (rest r : Bool) → r ≡ (ltb n need || rest) → rest ≡ short l → r ≡ short ((n, need) ∷ l)
 unfolding short
-lacks-short n need l r b e f = e ∙ ap (λ (x : Bool). ltb n need || x) f
+lacks-short n need l rest r e f = e ∙ ap (λ (x : Bool). ltb n need || x) f

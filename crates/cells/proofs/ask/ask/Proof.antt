@@ -21,7 +21,7 @@ due p =
     let a = start p .args in
     let l = p .before .before in
     p .refuse .ensures
-    ∙ ap (λ (s : Bool). refuseMap s (a .map) false (p .before .bad-question .result)) (lacks-short (length (a .cells .now)) maxCells [] (l .lacks .result) false (l .lacks .ensures) none-short)
+    ∙ ap (λ (s : Bool). refuseMap s (a .map) false (p .before .bad-question .result)) (lacks-short (length (a .cells .now)) maxCells [] false (l .lacks .result) (l .lacks .ensures) none-short)
     ∙ ap (refuseMap (short ((length (a .cells .now), maxCells) ∷ [])) (a .map) false) (p .before .bad-question .ensures)
 
 lacks-requires : tie.Need-lacks-requires

@@ -30,9 +30,9 @@ due p =
     let k = p .before .before in
     let l = k .before in
     p .refuse .ensures
-    ∙ ap (λ (s : Bool). refuseMap s (a .map) false false) (lacks-short (length (a .cells .now)) maxCells (rest s) (p .before .lacks3 .result) (k .lacks2 .result) (p .before .lacks3 .ensures)
-    (lacks-short (length (a .out .now)) needCells (last s) (k .lacks2 .result) (l .lacks .result) (k .lacks2 .ensures)
-    (lacks-short (length (a .statuses .now)) needCells [] (l .lacks .result) false (l .lacks .ensures) none-short)))
+    ∙ ap (λ (s : Bool). refuseMap s (a .map) false false) (lacks-short (length (a .cells .now)) maxCells (rest s) (k .lacks2 .result) (p .before .lacks3 .result) (p .before .lacks3 .ensures)
+    (lacks-short (length (a .out .now)) needCells (last s) (l .lacks .result) (k .lacks2 .result) (k .lacks2 .ensures)
+    (lacks-short (length (a .statuses .now)) needCells [] false (l .lacks .result) (l .lacks .ensures) none-short)))
 
 passes : (e : tie.Else1) → let a = start (e .before) .args in refuseMap (short ((length (a .cells .now), maxCells) ∷ rest (start (e .before)))) (a .map) false false ≡ 0
 passes e = sym (due (e .before)) ∙ e .if1 .left

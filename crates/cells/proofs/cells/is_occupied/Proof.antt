@@ -18,7 +18,7 @@ start p = p .before .before .before
 due : (p : tie.After-refuse) → let a = start p .args in p .refuse .result ≡ refuseMap (short ((length (a .cells .now), maxCells) ∷ [])) (a .map) false false
 due p =
     let a = start p .args in
-    p .refuse .ensures ∙ ap (λ (s : Bool). refuseMap s (a .map) false false) (lacks-short (length (a .cells .now)) maxCells [] (p .before .lacks .result) false (p .before .lacks .ensures) none-short)
+    p .refuse .ensures ∙ ap (λ (s : Bool). refuseMap s (a .map) false false) (lacks-short (length (a .cells .now)) maxCells [] false (p .before .lacks .result) (p .before .lacks .ensures) none-short)
 
 lacks-requires : tie.Need-lacks-requires
 lacks-requires c κs = tt

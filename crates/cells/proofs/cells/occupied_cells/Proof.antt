@@ -25,8 +25,8 @@ due p =
     let a = start p .args in
     let l = p .before .before in
     p .refuse .ensures
-    ∙ ap (λ (s : Bool). refuseMap s (a .map) false false) (lacks-short (length (a .cells .now)) maxCells (rest (start p)) (p .before .lacks2 .result) (l .lacks .result) (p .before .lacks2 .ensures)
-    (lacks-short (length (a .out .now)) needCells [] (l .lacks .result) false (l .lacks .ensures) none-short))
+    ∙ ap (λ (s : Bool). refuseMap s (a .map) false false) (lacks-short (length (a .cells .now)) maxCells (rest (start p)) (l .lacks .result) (p .before .lacks2 .result) (p .before .lacks2 .ensures)
+    (lacks-short (length (a .out .now)) needCells [] false (l .lacks .result) (l .lacks .ensures) none-short))
 
 passes : (e : tie.Else1) → let a = start (e .before) .args in refuseMap (short ((length (a .cells .now), maxCells) ∷ rest (start (e .before)))) (a .map) false false ≡ 0
 passes e = sym (due (e .before)) ∙ e .if1 .left

@@ -1,0 +1,144 @@
+//! What is seen from a cell, and its neighbours, beside the Rust's `calculate_visibility` and `neighbors`, which are measured twice,
+//! with hash maps as published and with ordered maps: the same cells, in one run, each side the best of many rounds. Every answer is
+//! compared with the ordered Rust's first.
+use bench::map::ProvedMap;
+use oracle::occupancy::Cell;
+use oracle::question::Entry;
+use oracle::{key, Random};
+use std::collections::BTreeSet;
+use std::hint::black_box;
+use std::time::Instant;
+
+const SIZE: f64 = 256.0;
+const RADIUS: f64 = 200.0;
+const POINTS: [usize; 3] = [5, 20, 64];
+const ROUNDS: usize = 20;
+const ASKED: usize = 2_000;
+
+/// The best of the rounds, in nanoseconds for one of the cells.
+fn best(mut round: impl FnMut()) -> f64 {
+    let measured = (0..ROUNDS).map(|_| {
+        let start = Instant::now();
+        round();
+        start.elapsed().as_nanos() as f64 / ASKED as f64
+    });
+    measured.fold(f64::INFINITY, f64::min)
+}
+
+/// The Rust's map over one kind of maps.
+macro_rules! rust {
+    ($module:ident) => {
+        mod $module {
+            use super::*;
+            use oracle::$module::occupancy::{Cell as Place, SparseGrid, Visibility};
+
+            pub type Map = Visibility<SparseGrid>;
+
+            pub fn map(entries: &[Entry]) -> Map {
+                let mut map = Visibility::new(SparseGrid::new(SIZE), RADIUS);
+                let cells = entries.iter().map(|&(x, y, full)| (Place::new(x, y), full));
+                map.change_cells(&cells.collect());
+                map
+            }
+
+            pub fn visibility(map: &Map, asked: &[Cell]) -> f64 {
+                best(|| {
+                    for c in asked {
+                        black_box(map.calculate_visibility(Place::new(c.x, c.y)).count());
+                    }
+                })
+            }
+
+            pub fn neighbors(map: &Map, asked: &[Cell]) -> f64 {
+                best(|| {
+                    for c in asked {
+                        black_box(map.neighbors(Place::new(c.x, c.y)).count());
+                    }
+                })
+            }
+        }
+    };
+}
+
+rust!(ordered);
+rust!(published);
+
+/// Random cells that have as many points.
+fn floor(random: &mut Random, points: usize) -> Vec<Entry> {
+    loop {
+        let extent = 2 + points as u64 / 4;
+        let cells: BTreeSet<(i64, i64)> = (0..1 + random.below(points as u64 / 2 + 1))
+            .map(|_| (random.below(extent) as i64, random.below(extent) as i64))
+            .collect();
+        let entries: Vec<Entry> = cells.into_iter().map(|(x, y)| (x, y, true)).collect();
+        if ordered::map(&entries).debug_points().len() == points {
+            return entries;
+        }
+    }
+}
+
+fn row(name: &str, points: usize, proved: f64, published: f64, ordered: f64) {
+    println!(
+        "{name:26} {points:2} points   proved {proved:9.1} ns   Rust, hash maps {published:9.1} ns, ordered {ordered:9.1} ns   faster Rust/proved {:5.2}",
+        published.min(ordered) / proved
+    );
+}
+
+/// The answers are the same, and then how long they take.
+fn measure(name: &str, points: usize, floor: &[Entry], map: &ProvedMap, asked: &[Cell]) {
+    let (tree, hash) = (ordered::map(floor), published::map(floor));
+    let mut out = [0; 64];
+    for c in asked {
+        let seen: Vec<u64> = tree.calculate_visibility(*c).map(|q| key(&q)).collect();
+        assert_eq!(seen, map.calculate_visibility(c, &mut out));
+        let beside: Vec<u64> = tree.neighbors(*c).map(|q| key(&q)).collect();
+        assert_eq!(beside, map.neighbors(c, &mut out));
+    }
+    let visibility = best(|| {
+        for c in asked {
+            black_box(map.calculate_visibility(c, &mut out).len());
+        }
+    });
+    row(
+        &format!("visibility from {name}"),
+        points,
+        visibility,
+        published::visibility(&hash, asked),
+        ordered::visibility(&tree, asked),
+    );
+    let neighbors = best(|| {
+        for c in asked {
+            black_box(map.neighbors(c, &mut out).len());
+        }
+    });
+    row(
+        &format!("neighbours of {name}"),
+        points,
+        neighbors,
+        published::neighbors(&hash, asked),
+        ordered::neighbors(&tree, asked),
+    );
+}
+
+fn main() {
+    let mut random = Random::default();
+    println!("cells of size {SIZE}, radius {RADIUS}; {ASKED} cells a round, best of {ROUNDS} rounds, for one cell");
+    for points in POINTS {
+        let floor = floor(&mut random, points);
+        let mut map = ProvedMap::open(SIZE, RADIUS).expect("an opening");
+        assert_eq!(map.change_cells(&ProvedMap::batch(&floor)), 0);
+        let all: Vec<Cell> = ordered::map(&floor)
+            .debug_points()
+            .keys()
+            .copied()
+            .collect();
+        let extent = 6 + points as u64 / 4;
+        let of_points: Vec<Cell> = (0..ASKED).map(|_| random.pick(&all)).collect();
+        let elsewhere = (0..ASKED)
+            .map(|_| [(); 2].map(|_| random.below(extent) as i64 - 2))
+            .map(|[x, y]| Cell::new(x, y))
+            .collect::<Vec<_>>();
+        measure("points", points, &floor, &map, &of_points);
+        measure("cells", points, &floor, &map, &elsewhere);
+    }
+}

@@ -1,0 +1,7 @@
+-- The laws of crate `edges`.
+pub mod Determinate
+pub mod PairLaws
+pub mod PointLaws
+pub mod ReadLaws
+pub mod RowLaws
+pub mod WalkLaws

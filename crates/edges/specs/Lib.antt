@@ -1,0 +1,3 @@
+-- What the contracts of crate `edges` cite.
+pub mod Columns
+pub mod Walks

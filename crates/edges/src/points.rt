@@ -1,0 +1,104 @@
+// The points of a map.
+use answers::judge::Count;
+use answers::judge::lacks;
+use answers::judge::refuse;
+use answers::judge::refused;
+use copy::bytes::copy_bytes;
+use copy::copy::copy;
+use visibility::map::Map;
+ghost use mathlib.Core.Path.{_≡_};
+ghost use mathlib.Core.Bool.{false};
+ghost use mathlib.Core.List.{[], _∷_, _++_};
+ghost use Prim.Native.Nat.{_≤_};
+ghost use lib.ListN.{drop, length};
+ghost use Rattle.answers.specs.Asking.{HoldsSome, Listing, refuseMap};
+ghost use Rattle.marks.specs.Marked.{statusesOf};
+ghost use Rattle.model.specs.Answers.{free, freePoints};
+ghost use Rattle.model.specs.Answers as asked;
+ghost use Rattle.model.specs.Layer.{Points};
+ghost use Rattle.model.specs.Limits.{maxPoints, needOthers};
+ghost use Rattle.model.specs.Maps.{keys, sift};
+ghost use Rattle.model.specs.Refusal.{short};
+ghost use Rattle.sight.specs.Blocked.{AllNamed, codes};
+ghost use Rattle.visibility.specs.Layers.{blocksOf};
+
+// All points, ascending, with their statuses and their blockers (0 for none, or a key).
+pub fn all_points(
+    map: Map,
+    points: &[u64],
+    statuses: &[u8],
+    blockers: &[u64],
+    out: &mut [u64],
+    bits: &mut [u8],
+    blocks: &mut [u64],
+) -> Count
+    ensures { λ r. ⌜ Listing
+        (refuseMap (short ((length (now (points .entry)), maxPoints) ∷ (length (now (statuses .entry)), maxPoints) ∷ (length (now (blockers .entry)), maxPoints) ∷ (length (now (out .entry)), needOthers) ∷ (length (now (bits .entry)), needOthers) ∷ (length (now (blocks .entry)), needOthers) ∷ [])) map false false)
+        (HoldsSome map (λ t. (t .points ≡ now (points .entry)) × (t .statuses ≡ now (statuses .entry)) × (t .blockers ≡ now (blockers .entry))))
+        (record { was = now (out .entry); is = now (out .exit); wanted = λ M. keys (asked.points M) } ∷ record { was = now (bits .entry); is = now (bits .exit); wanted = λ M. statusesOf (asked.points M) }
+        ∷ record { was = now (blocks .entry); is = now (blocks .exit); wanted = λ M. codes (blocksOf (asked.points M)) } ∷ []) r ⌝ }
+{
+    let outputs = lacks(
+        out.len(),
+        64,
+        lacks(bits.len(), 64, lacks(blocks.len(), 64, false)),
+    );
+    let short = lacks(
+        points.len(),
+        64,
+        lacks(statuses.len(), 64, lacks(blockers.len(), 64, outputs)),
+    );
+    let number = refuse(short, map, false, false);
+    if number != 0 {
+        return refused(number);
+    }
+    let n = map.points;
+    copy(&points[..n], out);
+    copy_bytes(&statuses[..n], bits);
+    copy(&blockers[..n], blocks);
+    Count {
+        refusal: 0,
+        count: n,
+    }
+}
+
+// Writes the points that nothing blocks to the front of `out`, and returns how many there are.
+fn write_free(points: &[u64], blockers: &[u64], out: &mut [u64]) -> usize
+    requires { ⌜ (length (now points) ≤ length (now blockers)) × (length (now points) ≤ length (now out)) ⌝ }
+    ensures { λ r. ⌜ ((ps : Points) → now (points .entry) ≡ keys ps → now (blockers .entry) ≡ codes (blocksOf ps) → AllNamed (blocksOf ps)
+        → (r ≡ length (sift (λ p. free (p .1 .block)) ps)) × (now (out .exit) ≡ keys (sift (λ p. free (p .1 .block)) ps) ++ drop r (now (out .entry)))) ⌝ }
+{
+    let mut n = 0;
+    let mut i = 0;
+    while i < points.len() {
+        if blockers[i] == 0 {
+            out[n] = points[i];
+            n += 1;
+        }
+        i += 1;
+    }
+    n
+}
+
+// The points that nothing blocks, ascending (`iter_points`).
+pub fn free_points(map: Map, points: &[u64], blockers: &[u64], out: &mut [u64]) -> Count
+    ensures { λ r. ⌜ Listing
+        (refuseMap (short ((length (now (points .entry)), maxPoints) ∷ (length (now (blockers .entry)), maxPoints) ∷ (length (now (out .entry)), needOthers) ∷ [])) map false false)
+        (HoldsSome map (λ t. (t .points ≡ now (points .entry)) × (t .blockers ≡ now (blockers .entry)))) (record { was = now (out .entry); is = now (out .exit); wanted = λ M. keys (freePoints M) } ∷ []) r ⌝ }
+{
+    let short = lacks(
+        points.len(),
+        64,
+        lacks(blockers.len(), 64, lacks(out.len(), 64, false)),
+    );
+    let number = refuse(short, map, false, false);
+    if number != 0 {
+        return refused(number);
+    }
+    let n = map.points;
+    let found = write_free(&points[..n], &blockers[..n], out);
+    Count {
+        refusal: 0,
+        count: found,
+    }
+}

@@ -1,0 +1,31 @@
+-- What both calls have in common: their refusal, by the lent lengths, the map and the cell (x, y), and what is known where there is none. Assumes nothing.
+use Prim.Native.Nat.{ℕ, _+_, _≤_, _<_}
+use mathlib.Core.Path.{_≡_}
+use mathlib.Core.Bool.{false, _||_}
+use mathlib.Core.List.{List}
+use lib.IntN.{ℤ}
+use Rattle.answers.specs.Asking.{refuseMap}
+use Rattle.answers.proofs.PassedLaws.{passed}
+use Rattle.model.specs.Cell.{key}
+use Rattle.model.specs.Limits.{beyond, maxCoordinate}
+use Rattle.model.specs.Refusal.{offMap, short}
+use Rattle.visibility.specs.declared.map.Map.{Map}
+use Rattle.visibility.proofs.OpenLaws.{Enough, long-enough}
+use Rattle.views.proofs.AroundLaws.{key-between}
+
+module _ (m : Map) (lent : List (ℕ × ℕ)) (x y : ℤ) where
+  abbrev pub refusal : ℕ
+  refusal = refuseMap (short lent) m (offMap (maxCoordinate + beyond) x || offMap (maxCoordinate + beyond) y) false
+
+  module _ (pass : refusal ≡ 0) where
+    pub rooms : Enough lent
+    rooms = long-enough lent (passed (short lent) m _ false pass .0)
+
+    pub few-cells : m .cells ≤ 1024
+    few-cells = passed (short lent) m _ false pass .2
+
+    pub few-points : m .points ≤ 64
+    few-points = passed (short lent) m _ false pass .3
+
+    pub key-inner : (4294967297 ≤ key x y) × (key x y < 18446744069414584319)
+    key-inner = key-between x y (passed (short lent) m _ false pass .1)

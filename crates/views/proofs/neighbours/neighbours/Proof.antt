@@ -1,0 +1,113 @@
+-- `neighbours::neighbours`: the refusal that is due, none where the square is taken, or the free steps. Assumes nothing.
+use mathlib.Core.Path.{_≡_, refl, sym, _∙_}
+use mathlib.Core.List.{[], _∷_}
+use mathlib.Core.Bool.{false}
+use lib.ListN.{length}
+use Rattle.answers.proofs.ListingLaws.{listing-refused}
+use Rattle.answers.proofs.PassedLaws.{refused-as, lacks-short, none-short}
+use Rattle.model.specs.Limits.{maxCells, needOthers}
+use Rattle.views.proofs.CallLaws.{refusal}
+use Rattle.views.proofs.NeighbourLaws.{Going, around-fits, cells-used, lengths, steps-listed, taken-listed}
+use Rattle.views.proofs.neighbours.neighbours.Statement.{statement}
+use Rattle.views.proofs.neighbours.neighbours.Tie as tie
+
+-- the places: the start; where nothing is refused; the key
+abbrev start : tie.After-refuse → tie.Start
+start p = p .before .before .before .before .before .before
+
+abbrev entry : tie.After-square-at → tie.Else1
+entry p = p .before .before .before
+
+abbrev keyed : tie.After-square-at → tie.After-key
+keyed p = p .before .before
+
+number : (p : tie.After-refuse) → let a = start p .args in p .refuse .result ≡ refusal (a .map) (lengths (a .cells .now) (a .out .now)) (a .cell .x) (a .cell .y)
+number p =
+    let a = start p .args in
+    let l = p .before .before in
+    let o = l .before .lacks in
+    refused-as (p .refuse .result) (l .lacks2 .result) _ (a .map) (p .before .off-edge .result) _ false (p .refuse .ensures)
+    (lacks-short (length (a .cells .now)) maxCells ((length (a .out .now), needOthers) ∷ []) (o .result) (l .lacks2 .result) (l .lacks2 .ensures)
+    (lacks-short (length (a .out .now)) needOthers [] false (o .result) (o .ensures) none-short))
+    (p .before .off-edge .ensures)
+
+going : (e : tie.Else1) → let a = start (e .before) .args in Going (a .map) (a .cells .now) (a .out .now) (a .cell .x) (a .cell .y)
+going e = record { pass = sym (number (e .before)) ∙ e .if1 .left }
+
+lacks-requires : tie.Need-lacks-requires
+lacks-requires c κs = tt
+
+lacks-requires-2 : tie.Need-lacks-requires-2
+lacks-requires-2 c κs = tt
+
+off-edge-requires : tie.Need-off-edge-requires
+off-edge-requires c κs = tt
+
+refuse-requires : tie.Need-refuse-requires
+refuse-requires c κs = tt
+
+refused-requires : tie.Need-refused-requires
+refused-requires c κs = tt
+
+returns : tie.Need-returns
+returns c =
+    let p = c .before .before in
+    let a = start p .args in
+    listing-refused (refusal (a .map) (lengths (a .cells .now) (a .out .now)) (a .cell .x) (a .cell .y)) (p .refuse .result) _ _ (c .refused .result) (number p) (c .before .if1 .taken) (c .refused .ensures) (refl, tt)
+
+key-requires : tie.Need-key-requires
+key-requires c κs = tt
+
+slice-aggregate-square-at : tie.Need-slice-aggregate-square-at
+slice-aggregate-square-at c = sym (cells-used (going (c .before .before)))
+
+square-at-requires : tie.Need-square-at-requires
+square-at-requires c κs = tt
+
+refused-requires-2 : tie.Need-refused-requires-2
+refused-requires-2 c κs = tt
+
+returns-2 : tie.Need-returns-2
+returns-2 c =
+    let p = c .before .before in
+    taken-listed (going (entry p)) (keyed p .key .result) (keyed p .key .ensures)
+    (p .square-at .result) (p .square-at .ensures) (c .refused2 .result) (c .before .if2 .taken) (c .refused2 .ensures)
+
+slice-aggregate-write-steps : tie.Need-slice-aggregate-write-steps
+slice-aggregate-write-steps c = sym (cells-used (going (entry (c .before .before))))
+
+write-steps-requires : tie.Need-write-steps-requires
+write-steps-requires c κs =
+    let p = c .before .before .before in
+    around-fits (going (entry p)) (keyed p .key .result) (keyed p .key .ensures)
+
+same-length : tie.Need-same-length
+same-length c = c .before .before .write-steps .kept .1 .1 .1 .1 .0
+
+returns-3 : tie.Need-returns-3
+returns-3 c =
+    let w = c .before .before in
+    let t = w .before .before .before in
+    let p = t .before in
+    steps-listed (going (entry p)) (keyed p .key .result) (keyed p .key .ensures)
+    (p .square-at .result) (p .square-at .ensures) (w .write-steps .last .1 .1 .1 .1 .0) (w .write-steps .result) (t .if2 .left) (w .write-steps .ensures)
+
+pub neighbours-spec : {M : Type 1} → statement M
+neighbours-spec =
+    tie.close
+    (tie.spec
+    lacks-requires
+    lacks-requires-2
+    off-edge-requires
+    refuse-requires
+    refused-requires
+    returns
+    key-requires
+    slice-aggregate-square-at
+    square-at-requires
+    refused-requires-2
+    returns-2
+    slice-aggregate-write-steps
+    write-steps-requires
+    same-length
+    returns-3)

@@ -1,0 +1,2 @@
+-- What the contracts of crate `views` cite.
+pub mod Wrote

@@ -1,0 +1,33 @@
+-- Which cells the loops of crate `views` keep, and where they write them. Definitions only.
+use Prim.Native.Nat.{ℕ}
+use mathlib.Core.Path.{_≡_}
+use mathlib.Core.Bool.{cond, _&&_}
+use mathlib.Core.List.{List, [], _∷_, _++_}
+use lib.Dec.{eqb}
+use lib.Ieee.{Float}
+use lib.ListN.{drop, length}
+use Rattle.model.specs.Answers.{free}
+use Rattle.model.specs.Cell.{eight}
+use Rattle.model.specs.Corner.{sees}
+use Rattle.model.specs.Layer.{Points}
+use Rattle.model.specs.Map.{tests}
+use Rattle.model.specs.Maps.{keys, sift}
+
+-- the table a became a′: the r entries of l stand at its front, and what follows is untouched
+pub record Wrote (l a a′ : List ℕ) (r : ℕ) : Type 0 where
+  pub count : r ≡ length l
+  pub cells : a′ ≡ l ++ drop r a
+
+-- the cells around k to which the sweep is free
+abbrev pub steps : Float → Float → List ℕ → ℕ → List ℕ
+steps c r C k = sift (λ q. free (tests c r .sweep C k q .cell)) (eight k)
+
+-- the entries whose number is 1
+unfoldable pub marked : List ℕ → List ℕ → List ℕ
+marked [] row = []
+marked (x ∷ l) [] = []
+marked (x ∷ l) (c ∷ row) = let r = marked l row in cond (eqb c 1) (x ∷ r) r
+
+-- the points that nothing blocks, in whose visible quadrant k lies, with a free sweep from it
+abbrev pub seen : Float → Float → List ℕ → ℕ → Points → List ℕ
+seen c r C k ps = keys (sift (λ q. free (q .1 .block) && (sees k (q .0) (q .1 .bits) && free (tests c r .sweep C k (q .0) .cell))) ps)

@@ -1,0 +1,76 @@
+// The cells beside a cell that can be reached from it (`neighbors`).
+use answers::judge::Count;
+use answers::judge::lacks;
+use answers::judge::off_edge;
+use answers::judge::refuse;
+use answers::judge::refused;
+use floor::cell::Cell;
+use sight::tests::square_at;
+use sight::tests::sweep_between;
+use visibility::map::Map;
+ghost use mathlib.Core.Path.{_≡_};
+ghost use mathlib.Core.Bool.{false, _||_};
+ghost use mathlib.Core.List.{[], _∷_};
+ghost use Prim.Native.Nat.{_+_, _≤_, _<_};
+ghost use lib.ListN.{length};
+ghost use Rattle.answers.specs.Asking.{HoldsSome, Listing, refuseMap};
+ghost use Rattle.model.specs.Answers.{neighbours};
+ghost use Rattle.model.specs.Cell.{key};
+ghost use Rattle.model.specs.Good.{Inside};
+ghost use Rattle.model.specs.Limits.{beyond, maxCells, maxCoordinate, needOthers};
+ghost use Rattle.model.specs.Maps.{AscL};
+ghost use Rattle.model.specs.Refusal.{offMap, short};
+ghost use Rattle.table.specs.Tables.{All};
+ghost use Rattle.views.specs.Wrote.{Wrote, steps};
+
+// Those of the eight cells around k to whose centre the sweep is free, in the order of `secondary_cardinal_directions`.
+fn write_steps(size: f64, radius: f64, cells: &[u64], k: u64, out: &mut [u64]) -> usize
+    requires { ⌜ (4294967297 ≤ k) × (k < 18446744069414584319) × (8 ≤ length (now out)) ⌝ }
+    ensures { λ r. ⌜ (AscL 0 (now (cells .entry)) → All (Inside maxCoordinate) (now (cells .entry)) → Wrote (steps size radius (now (cells .entry)) k) (now (out .entry)) (now (out .exit)) r) ⌝ }
+{
+    let west = k - 4294967296;
+    let east = k + 4294967296;
+    let around = [
+        west - 1,
+        west,
+        west + 1,
+        k - 1,
+        k + 1,
+        east - 1,
+        east,
+        east + 1,
+    ];
+    let mut n = 0;
+    let mut i = 0;
+    while i < 8 {
+        if sweep_between(size, radius, cells, k, around[i]) == 0 {
+            out[n] = around[i];
+            n += 1;
+        }
+        i += 1;
+    }
+    n
+}
+
+// None, if the square of width 2r at this centre is taken.
+pub fn neighbours(map: Map, cells: &[u64], cell: Cell, out: &mut [u64]) -> Count
+    ensures { λ r. ⌜ Listing
+        (refuseMap (short ((length (now (cells .entry)), maxCells) ∷ (length (now (out .entry)), needOthers) ∷ [])) map (offMap (maxCoordinate + beyond) (cell .x) || offMap (maxCoordinate + beyond) (cell .y)) false)
+        (HoldsSome map (λ t. t .cells ≡ now (cells .entry))) (record { was = now (out .entry); is = now (out .exit); wanted = λ M. neighbours M (key (cell .x) (cell .y)) } ∷ []) r ⌝ }
+{
+    let short = lacks(cells.len(), 1024, lacks(out.len(), 64, false));
+    let number = refuse(short, map, off_edge(cell), false);
+    if number != 0 {
+        return refused(number);
+    }
+    let n = map.cells;
+    let k = cell.key();
+    if square_at(map.size, map.radius, &cells[..n], k) != 0 {
+        return refused(0);
+    }
+    let found = write_steps(map.size, map.radius, &cells[..n], k, out);
+    Count {
+        refusal: 0,
+        count: found,
+    }
+}

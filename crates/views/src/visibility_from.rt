@@ -1,0 +1,148 @@
+// The points in sight of a cell (`calculate_visibility`).
+use answers::judge::Count;
+use answers::judge::lacks;
+use answers::judge::off_edge;
+use answers::judge::refuse;
+use answers::judge::refused;
+use floor::cell::Cell;
+use sight::pair::sees;
+use sight::tests::sweep_between;
+use table::place::place;
+use table::place::stands_at;
+use visibility::map::Map;
+ghost use mathlib.Core.Path.{_≡_};
+ghost use mathlib.Core.Bool.{false, _&&_, _||_};
+ghost use mathlib.Core.List.{[], _∷_};
+ghost use mathlib.Core.Option.{Option};
+ghost use Prim.Native.Nat.{ℕ, _+_, _≤_};
+ghost use lib.ListN.{length};
+ghost use Rattle.answers.specs.Asking.{HoldsSome, Listing, refuseMap};
+ghost use Rattle.marks.specs.Marked.{statusesOf};
+ghost use Rattle.model.specs.Answers.{free, visibleFrom};
+ghost use Rattle.model.specs.Cell.{key};
+ghost use Rattle.model.specs.Corner.{Bits, number, sees};
+ghost use Rattle.model.specs.Good.{Inside};
+ghost use Rattle.model.specs.Layer.{Points};
+ghost use Rattle.model.specs.Limits.{beyond, maxCells, maxCoordinate, maxPoints, needOthers};
+ghost use Rattle.model.specs.Map.{tests};
+ghost use Rattle.model.specs.Maps.{AscL, keys};
+ghost use Rattle.model.specs.Refusal.{offMap, short};
+ghost use Rattle.sight.specs.Blocked.{AllNamed, codes};
+ghost use Rattle.sight.specs.Codes.{Named, blockCode};
+ghost use Rattle.sight.specs.Paired.{pairPlaces};
+ghost use Rattle.table.specs.Tables.{All};
+ghost use Rattle.visibility.specs.Layers.{blocksOf};
+ghost use Rattle.views.specs.Wrote.{Wrote, marked, seen};
+
+// From a point, whose pairs are `row`: those of its pairs that nothing blocks, without looking at what blocks the points.
+fn write_paired(points: &[u64], row: &[u64], out: &mut [u64]) -> usize
+    requires { ⌜ (length (now points) ≤ length (now row)) × (length (now points) ≤ length (now out)) ⌝ }
+    ensures { λ r. ⌜ Wrote (marked (now (points .entry)) (now (row .entry))) (now (out .entry)) (now (out .exit)) r ⌝ }
+{
+    let mut n = 0;
+    let mut i = 0;
+    while i < points.len() {
+        if row[i] == 1 {
+            out[n] = points[i];
+            n += 1;
+        }
+        i += 1;
+    }
+    n
+}
+
+// Whether a point of this status and blocker is seen from the cell k, which is none.
+fn is_seen(size: f64, radius: f64, cells: &[u64], k: u64, p: u64, status: u8, blocker: u64) -> bool
+    ensures { λ r. ⌜ ((b : Bits) (o : Option ℕ) → AscL 0 (now (cells .entry)) → All (Inside maxCoordinate) (now (cells .entry)) → status ≡ number b → blocker ≡ blockCode o → Named o
+        → r ≡ (free o && (sees k p b && free (tests size radius .sweep (now (cells .entry)) k p .cell)))) ⌝ }
+{
+    if blocker != 0 {
+        return false;
+    }
+    if !sees(k, p, status) {
+        return false;
+    }
+    sweep_between(size, radius, cells, k, p) == 0
+}
+
+// From any other cell.
+fn write_seen(
+    size: f64,
+    radius: f64,
+    cells: &[u64],
+    points: &[u64],
+    statuses: &[u8],
+    blockers: &[u64],
+    k: u64,
+    out: &mut [u64],
+) -> usize
+    requires { ⌜ (length (now points) ≤ length (now statuses)) × (length (now points) ≤ length (now blockers)) × (length (now points) ≤ length (now out)) ⌝ }
+    ensures { λ r. ⌜ ((ps : Points) → AscL 0 (now (cells .entry)) → All (Inside maxCoordinate) (now (cells .entry)) → now (points .entry) ≡ keys ps → now (statuses .entry) ≡ statusesOf ps → now (blockers .entry) ≡ codes (blocksOf ps) → AllNamed (blocksOf ps)
+        → Wrote (seen size radius (now (cells .entry)) k ps) (now (out .entry)) (now (out .exit)) r) ⌝ }
+{
+    let mut n = 0;
+    let mut i = 0;
+    while i < points.len() {
+        if is_seen(size, radius, cells, k, points[i], statuses[i], blockers[i]) {
+            out[n] = points[i];
+            n += 1;
+        }
+        i += 1;
+    }
+    n
+}
+
+pub fn visibility_from(
+    map: Map,
+    cells: &[u64],
+    points: &[u64],
+    statuses: &[u8],
+    blockers: &[u64],
+    pairs: &[u64],
+    cell: Cell,
+    out: &mut [u64],
+) -> Count
+    ensures { λ r. ⌜ Listing
+        (refuseMap (short ((length (now (cells .entry)), maxCells) ∷ (length (now (points .entry)), maxPoints) ∷ (length (now (statuses .entry)), maxPoints) ∷ (length (now (blockers .entry)), maxPoints) ∷ (length (now (pairs .entry)), pairPlaces) ∷ (length (now (out .entry)), needOthers) ∷ []))
+        map (offMap (maxCoordinate + beyond) (cell .x) || offMap (maxCoordinate + beyond) (cell .y)) false)
+        (HoldsSome map (λ t. t ≡ record { cells = now (cells .entry); points = now (points .entry); statuses = now (statuses .entry); blockers = now (blockers .entry); pairs = now (pairs .entry) }))
+        (record { was = now (out .entry); is = now (out .exit); wanted = λ M. visibleFrom M (key (cell .x) (cell .y)) } ∷ []) r ⌝ }
+{
+    let lists = lacks(
+        statuses.len(),
+        64,
+        lacks(
+            blockers.len(),
+            64,
+            lacks(pairs.len(), 4096, lacks(out.len(), 64, false)),
+        ),
+    );
+    let short = lacks(cells.len(), 1024, lacks(points.len(), 64, lists));
+    let number = refuse(short, map, off_edge(cell), false);
+    if number != 0 {
+        return refused(number);
+    }
+    let c = map.cells;
+    let n = map.points;
+    let k = cell.key();
+    let at = place(&points[..n], k);
+    let mut found = 0;
+    if stands_at(&points[..n], at, k) {
+        found = write_paired(&points[..n], &pairs[64 * at..64 * at + n], out);
+    } else {
+        found = write_seen(
+            map.size,
+            map.radius,
+            &cells[..c],
+            &points[..n],
+            &statuses[..n],
+            &blockers[..n],
+            k,
+            out,
+        );
+    }
+    Count {
+        refusal: 0,
+        count: found,
+    }
+}

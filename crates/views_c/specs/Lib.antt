@@ -1,0 +1,2 @@
+-- What the contracts of crate `views_c` cite.
+pub mod Told
