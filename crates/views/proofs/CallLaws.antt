@@ -1,23 +1,19 @@
 -- What both calls have in common: their refusal, by the lent lengths, the map and the cell (x, y), and what is known where there is none. Assumes nothing.
-use Prim.Native.Nat.{ℕ, _+_, _≤_, _<_}
+use Prim.Native.Nat.{ℕ, _≤_, _<_}
 use mathlib.Core.Path.{_≡_}
-use mathlib.Core.Bool.{false, _||_}
+use mathlib.Core.Bool.{false}
 use mathlib.Core.List.{List}
 use lib.IntN.{ℤ}
-use Rattle.answers.specs.Asking.{refuseMap}
 use Rattle.answers.proofs.PassedLaws.{passed}
 use Rattle.model.specs.Cell.{key}
-use Rattle.model.specs.Limits.{beyond, maxCoordinate}
-use Rattle.model.specs.Refusal.{offMap, short}
+use Rattle.model.specs.Refusal.{short}
 use Rattle.visibility.specs.declared.map.Map.{Map}
 use Rattle.visibility.proofs.OpenLaws.{Enough, long-enough}
+use Rattle.views.specs.Seen.{refusal}
 use Rattle.views.proofs.AroundLaws.{key-between}
 
 module _ (m : Map) (lent : List (ℕ × ℕ)) (x y : ℤ) where
-  abbrev pub refusal : ℕ
-  refusal = refuseMap (short lent) m (offMap (maxCoordinate + beyond) x || offMap (maxCoordinate + beyond) y) false
-
-  module _ (pass : refusal ≡ 0) where
+  module _ (pass : refusal m lent x y ≡ 0) where
     pub rooms : Enough lent
     rooms = long-enough lent (passed (short lent) m _ false pass .0)
 

@@ -11,11 +11,7 @@ use Rattle.model.specs.Cell.{key}
 use Rattle.model.specs.Map as model
 use Rattle.visibility.specs.Holds.{Tables}
 use Rattle.visibility.specs.declared.map.Map.{Map}
-use Rattle.views.proofs.CallLaws.{refusal}
-use Rattle.views.proofs.NeighbourLaws.{Beside}
-use Rattle.views.proofs.NeighbourLaws as beside
-use Rattle.views.proofs.VisibilityLaws.{InSight}
-use Rattle.views.proofs.VisibilityLaws as sight
+use Rattle.views.specs.Seen.{Beside, InSight, besideLengths, refusal, sightLengths}
 
 module _ (m : Map) (cells out a b : List ℕ) (x y : ℤ) (r q : Count) (u : Beside m cells out x y a r) (v : Beside m cells out x y b q) where
   abbrev Cells : model.Map → Type 0
@@ -25,10 +21,10 @@ module _ (m : Map) (cells out a b : List ℕ) (x y : ℤ) (r q : Count) (u : Bes
   steps l = record { was = out; is = l; wanted = λ M. neighbours M (key x y) }
 
   pub neighbours-one : (M : model.Map) → Cells M → (r ≡ q) × (a ≡ b)
-  neighbours-one M h = let z = listing-one (refusal m (beside.lengths cells out) x y) Cells (steps a) (steps b) [] [] r q (refl, refl, tt) u v M h in (z .0, z .1 .0)
+  neighbours-one M h = let z = listing-one (refusal m (besideLengths cells out) x y) Cells (steps a) (steps b) [] [] r q (refl, refl, tt) u v M h in (z .0, z .1 .0)
 
-  pub neighbours-refused : (k : ℕ) → refusal m (beside.lengths cells out) x y ≡ suc k → (r ≡ q) × (a ≡ b)
-  neighbours-refused k e = let z = refused-one (refusal m (beside.lengths cells out) x y) Cells (steps a) (steps b) [] [] r q (refl, refl, tt) u v k e in (z .0, z .1 .0)
+  pub neighbours-refused : (k : ℕ) → refusal m (besideLengths cells out) x y ≡ suc k → (r ≡ q) × (a ≡ b)
+  neighbours-refused k e = let z = refused-one (refusal m (besideLengths cells out) x y) Cells (steps a) (steps b) [] [] r q (refl, refl, tt) u v k e in (z .0, z .1 .0)
 
 module _ (m : Map) (t : Tables) (out a b : List ℕ) (x y : ℤ) (r q : Count) (u : InSight m t out x y a r) (v : InSight m t out x y b q) where
   abbrev Whole : model.Map → Type 0
@@ -38,7 +34,7 @@ module _ (m : Map) (t : Tables) (out a b : List ℕ) (x y : ℤ) (r q : Count) (
   points l = record { was = out; is = l; wanted = λ M. visibleFrom M (key x y) }
 
   pub visibility-one : (M : model.Map) → Whole M → (r ≡ q) × (a ≡ b)
-  visibility-one M h = let z = listing-one (refusal m (sight.lengths t out) x y) Whole (points a) (points b) [] [] r q (refl, refl, tt) u v M h in (z .0, z .1 .0)
+  visibility-one M h = let z = listing-one (refusal m (sightLengths t out) x y) Whole (points a) (points b) [] [] r q (refl, refl, tt) u v M h in (z .0, z .1 .0)
 
-  pub visibility-refused : (k : ℕ) → refusal m (sight.lengths t out) x y ≡ suc k → (r ≡ q) × (a ≡ b)
-  visibility-refused k e = let z = refused-one (refusal m (sight.lengths t out) x y) Whole (points a) (points b) [] [] r q (refl, refl, tt) u v k e in (z .0, z .1 .0)
+  pub visibility-refused : (k : ℕ) → refusal m (sightLengths t out) x y ≡ suc k → (r ≡ q) × (a ≡ b)
+  visibility-refused k e = let z = refused-one (refusal m (sightLengths t out) x y) Whole (points a) (points b) [] [] r q (refl, refl, tt) u v k e in (z .0, z .1 .0)

@@ -9,14 +9,14 @@ use lib.Ieee.{Float}
 use lib.IntN.{ℤ}
 use lib.ListN.{length, take}
 use lib.Seq.{length-take-le}
-use Rattle.answers.specs.Asking.{HoldsSome, Listing, Written, refusedWith}
+use Rattle.answers.specs.Asking.{HoldsSome, Written, refusedWith}
 use Rattle.answers.specs.declared.judge.Count.{Count}
 use Rattle.answers.proofs.ListingLaws.{listing-done}
 use Rattle.floor.proofs.FloorLaws.{holds-cells}
 use Rattle.model.specs.Answers.{free, neighbours}
 use Rattle.model.specs.Cell.{key}
 use Rattle.model.specs.Good.{Inside}
-use Rattle.model.specs.Limits.{maxCells, maxCoordinate, needOthers}
+use Rattle.model.specs.Limits.{maxCoordinate}
 use Rattle.model.specs.Map as model
 use Rattle.model.specs.Maps.{AscL}
 use Rattle.sight.specs.Codes.{blockCode}
@@ -26,7 +26,8 @@ use Rattle.visibility.specs.declared.map.Map.{Map}
 use Rattle.visibility.proofs.OpenLaws.{Enough}
 use Rattle.views.specs.Wrote.{Wrote, steps}
 use Rattle.views.proofs.AroundLaws.{Told}
-use Rattle.views.proofs.CallLaws.{few-cells, key-inner, refusal, rooms}
+use Rattle.views.specs.Seen.{Beside, besideLengths as lengths, refusal}
+use Rattle.views.proofs.CallLaws.{few-cells, key-inner, rooms}
 use Rattle.views.proofs.FreeLaws.{found-none, found-some}
 use Rattle.views.proofs.WroteLaws.{written-list, written-none}
 
@@ -59,15 +60,6 @@ module _ (m : Map) (cells : List ℕ) (M : model.Map) (h : HoldsSome m (λ t. t 
 
     some-beside : s ≡ 0 → neighbours M k ≡ steps (m .size) (m .radius) C k
     some-beside z = by-square true (found-none found s (square-named (m .size) (m .radius) C k (told .1)) (e (told .0) (told .1)) z)
-
--- ---- a call, with the lent tables `cells` and `out`, of the cell (x, y)
-abbrev pub lengths : List ℕ → List ℕ → List (ℕ × ℕ)
-lengths cells out = (length cells, maxCells) ∷ (length out, needOthers) ∷ []
-
--- what the contract says, where out became out′
-abbrev pub Beside : Map → List ℕ → List ℕ → ℤ → ℤ → List ℕ → Count → Type 0
-Beside m cells out x y out′ r =
-    Listing (refusal m (lengths cells out) x y) (HoldsSome m (λ t. t .cells ≡ cells)) (record { was = out; is = out′; wanted = λ M. neighbours M (key x y) } ∷ []) r
 
 -- nothing is refused
 pub record Going (m : Map) (cells out : List ℕ) (x y : ℤ) : Type 0 where

@@ -8,8 +8,7 @@ use lib.IntN.{ℤ}
 use lib.ListN.{drop, getD, length, length-drop, take}
 use lib.Seq.{getD-drop, getD-take, length-take-le}
 use borrow.Author.Tests.{lt-ltb}
-use Rattle.answers.specs.Asking.{HoldsSome, Listing}
-use Rattle.answers.specs.declared.judge.Count.{Count}
+use Rattle.answers.specs.Asking.{HoldsSome}
 use Rattle.answers.proofs.ListingLaws.{listing-done}
 use Rattle.floor.proofs.FloorLaws.{holds-cells}
 use Rattle.marks.specs.Marked.{statusesOf}
@@ -18,14 +17,13 @@ use Rattle.model.specs.Cell.{key}
 use Rattle.model.specs.Corner.{sees}
 use Rattle.model.specs.Good.{Inside}
 use Rattle.model.specs.Layer.{Point, Points, edge}
-use Rattle.model.specs.Limits.{maxCells, maxCoordinate, maxPoints, needOthers}
+use Rattle.model.specs.Limits.{maxCoordinate, maxPoints}
 use Rattle.model.specs.Map as model
 use Rattle.model.specs.Maps.{AscL, has, keys, sift}
 use Rattle.model.proofs.MapLaws.{keys-has}
 use Rattle.model.proofs.OrderLaws.{asc-keys}
 use Rattle.sight.specs.Blocked.{AllNamed, codes}
 use Rattle.sight.specs.Codes.{NamedPair, pairCode}
-use Rattle.sight.specs.Paired.{pairPlaces}
 use Rattle.table.specs.Tables.{All, rank, stands}
 use Rattle.table.proofs.ListedLaws.{keys-length}
 use Rattle.table.proofs.LookLaws.{stands-has, stands-inside}
@@ -37,7 +35,8 @@ use Rattle.visibility.proofs.NamedLaws.{blocks-named, pairs-named}
 use Rattle.visibility.proofs.OpenLaws.{Enough}
 use Rattle.visibility.proofs.PlaceLaws.{rank-at, rank-inside}
 use Rattle.views.specs.Wrote.{Wrote, marked, seen}
-use Rattle.views.proofs.CallLaws.{few-cells, few-points, refusal, rooms}
+use Rattle.views.specs.Seen.{InSight, refusal, sightLengths as lengths}
+use Rattle.views.proofs.CallLaws.{few-cells, few-points, rooms}
 use Rattle.views.proofs.MarkedLaws.{Tells, marked-open}
 use Rattle.views.proofs.WroteLaws.{written-list}
 
@@ -113,16 +112,6 @@ module _ (m : Map) (t : Tables) (M : model.Map) (h : Holds m t M) (k : ℕ) wher
         chosen false s
         ∙ ap keys (sift-both (λ p. free (p .1 .block)) (λ q. sees k (q .0) (q .1 .bits) && free (model.tests (M .size) (M .layer .radius) .sweep (M .cells) k (q .0) .cell)) ps)
         ∙ rw (holds-cells (t .cells) (m .cells) (M .cells) (h .cells), h .size, h .radius) refl
-
--- ---- a call, with the lent tables t and `out`, of the cell (x, y)
-abbrev pub lengths : Tables → List ℕ → List (ℕ × ℕ)
-lengths t out =
-    (length (t .cells), maxCells) ∷ (length (t .points), maxPoints) ∷ (length (t .statuses), maxPoints) ∷ (length (t .blockers), maxPoints) ∷ (length (t .pairs), pairPlaces)
-    ∷ (length out, needOthers) ∷ []
-
--- what the contract says, where out became out′
-abbrev pub InSight : Map → Tables → List ℕ → ℤ → ℤ → List ℕ → Count → Type 0
-InSight m t out x y out′ r = Listing (refusal m (lengths t out) x y) (HoldsSome m (λ u. u ≡ t)) (record { was = out; is = out′; wanted = λ M. visibleFrom M (key x y) } ∷ []) r
 
 -- nothing is refused
 pub record Going (m : Map) (t : Tables) (out : List ℕ) (x y : ℤ) : Type 0 where

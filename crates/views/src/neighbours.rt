@@ -8,19 +8,17 @@ use floor::cell::Cell;
 use sight::tests::square_at;
 use sight::tests::sweep_between;
 use visibility::map::Map;
-ghost use mathlib.Core.Path.{_≡_};
-ghost use mathlib.Core.Bool.{false, _||_};
-ghost use mathlib.Core.List.{[], _∷_};
+ghost use mathlib.Core.Bool.{false};
 ghost use Prim.Native.Nat.{_+_, _≤_, _<_};
 ghost use lib.ListN.{length};
-ghost use Rattle.answers.specs.Asking.{HoldsSome, Listing, refuseMap};
 ghost use Rattle.model.specs.Answers.{neighbours};
 ghost use Rattle.model.specs.Cell.{key};
 ghost use Rattle.model.specs.Good.{Inside};
-ghost use Rattle.model.specs.Limits.{beyond, maxCells, maxCoordinate, needOthers};
+ghost use Rattle.model.specs.Limits.{maxCoordinate};
 ghost use Rattle.model.specs.Maps.{AscL};
-ghost use Rattle.model.specs.Refusal.{offMap, short};
+ghost use Rattle.model.specs.Refusal.{short};
 ghost use Rattle.table.specs.Tables.{All};
+ghost use Rattle.views.specs.Seen.{Beside};
 ghost use Rattle.views.specs.Wrote.{Wrote, steps};
 
 // Those of the eight cells around k to whose centre the sweep is free, in the order of `secondary_cardinal_directions`.
@@ -54,9 +52,7 @@ fn write_steps(size: f64, radius: f64, cells: &[u64], k: u64, out: &mut [u64]) -
 
 // None, if the square of width 2r at this centre is taken.
 pub fn neighbours(map: Map, cells: &[u64], cell: Cell, out: &mut [u64]) -> Count
-    ensures { λ r. ⌜ Listing
-        (refuseMap (short ((length (now (cells .entry)), maxCells) ∷ (length (now (out .entry)), needOthers) ∷ [])) map (offMap (maxCoordinate + beyond) (cell .x) || offMap (maxCoordinate + beyond) (cell .y)) false)
-        (HoldsSome map (λ t. t .cells ≡ now (cells .entry))) (record { was = now (out .entry); is = now (out .exit); wanted = λ M. neighbours M (key (cell .x) (cell .y)) } ∷ []) r ⌝ }
+    ensures { λ r. ⌜ Beside map (now (cells .entry)) (now (out .entry)) (cell .x) (cell .y) (now (out .exit)) r ⌝ }
 {
     let short = lacks(cells.len(), 1024, lacks(out.len(), 64, false));
     let number = refuse(short, map, off_edge(cell), false);

@@ -11,27 +11,25 @@ use table::place::place;
 use table::place::stands_at;
 use visibility::map::Map;
 ghost use mathlib.Core.Path.{_≡_};
-ghost use mathlib.Core.Bool.{false, _&&_, _||_};
-ghost use mathlib.Core.List.{[], _∷_};
+ghost use mathlib.Core.Bool.{false, _&&_};
 ghost use mathlib.Core.Option.{Option};
 ghost use Prim.Native.Nat.{ℕ, _+_, _≤_};
 ghost use lib.ListN.{length};
-ghost use Rattle.answers.specs.Asking.{HoldsSome, Listing, refuseMap};
 ghost use Rattle.marks.specs.Marked.{statusesOf};
-ghost use Rattle.model.specs.Answers.{free, visibleFrom};
+ghost use Rattle.model.specs.Answers.{free};
 ghost use Rattle.model.specs.Cell.{key};
 ghost use Rattle.model.specs.Corner.{Bits, number, sees};
 ghost use Rattle.model.specs.Good.{Inside};
 ghost use Rattle.model.specs.Layer.{Points};
-ghost use Rattle.model.specs.Limits.{beyond, maxCells, maxCoordinate, maxPoints, needOthers};
+ghost use Rattle.model.specs.Limits.{maxCoordinate};
 ghost use Rattle.model.specs.Map.{tests};
 ghost use Rattle.model.specs.Maps.{AscL, keys};
-ghost use Rattle.model.specs.Refusal.{offMap, short};
+ghost use Rattle.model.specs.Refusal.{short};
 ghost use Rattle.sight.specs.Blocked.{AllNamed, codes};
 ghost use Rattle.sight.specs.Codes.{Named, blockCode};
-ghost use Rattle.sight.specs.Paired.{pairPlaces};
 ghost use Rattle.table.specs.Tables.{All};
 ghost use Rattle.visibility.specs.Layers.{blocksOf};
+ghost use Rattle.views.specs.Seen.{InSight};
 ghost use Rattle.views.specs.Wrote.{Wrote, marked, seen};
 
 // From a point, whose pairs are `row`: those of its pairs that nothing blocks, without looking at what blocks the points.
@@ -102,11 +100,8 @@ pub fn visibility_from(
     cell: Cell,
     out: &mut [u64],
 ) -> Count
-    ensures { λ r. ⌜ Listing
-        (refuseMap (short ((length (now (cells .entry)), maxCells) ∷ (length (now (points .entry)), maxPoints) ∷ (length (now (statuses .entry)), maxPoints) ∷ (length (now (blockers .entry)), maxPoints) ∷ (length (now (pairs .entry)), pairPlaces) ∷ (length (now (out .entry)), needOthers) ∷ []))
-        map (offMap (maxCoordinate + beyond) (cell .x) || offMap (maxCoordinate + beyond) (cell .y)) false)
-        (HoldsSome map (λ t. t ≡ record { cells = now (cells .entry); points = now (points .entry); statuses = now (statuses .entry); blockers = now (blockers .entry); pairs = now (pairs .entry) }))
-        (record { was = now (out .entry); is = now (out .exit); wanted = λ M. visibleFrom M (key (cell .x) (cell .y)) } ∷ []) r ⌝ }
+    ensures { λ r. ⌜ InSight map (record { cells = now (cells .entry); points = now (points .entry); statuses = now (statuses .entry); blockers = now (blockers .entry); pairs = now (pairs .entry) })
+        (now (out .entry)) (cell .x) (cell .y) (now (out .exit)) r ⌝ }
 {
     let lists = lacks(
         statuses.len(),

@@ -6,7 +6,8 @@ use views::visibility_from::visibility_from;
 use visibility::map::Map;
 ghost use mathlib.Core.Path.{_≡_};
 ghost use Rattle.answers.specs.declared.judge.Count.{Count};
-ghost use Rattle.views_c.specs.Told.{Beside, Sighted, told};
+ghost use Rattle.views.specs.Seen.{Beside, InSight};
+ghost use Rattle.views_c.specs.Told.{told};
 
 // How many there are, at most 64; or 100 and the refusal's number.
 fn tell(r: Count) -> u64
@@ -29,7 +30,7 @@ pub extern "C" fn runcedau_neighbours(
     y: i64,
     out: &mut [u64],
 ) -> u64
-    ensures { λ n. ⌜ ((r : Count) × Beside (record { size = size; radius = radius; cells = count; points = many }) (now (cells .entry)) (now (out .entry)) (now (out .exit)) r x y × (n ≡ told r)) ⌝ }
+    ensures { λ n. ⌜ ((r : Count) × Beside (record { size = size; radius = radius; cells = count; points = many }) (now (cells .entry)) (now (out .entry)) x y (now (out .exit)) r × (n ≡ told r)) ⌝ }
 {
     let map = Map {
         size,
@@ -55,8 +56,8 @@ pub extern "C" fn runcedau_visibility(
     y: i64,
     out: &mut [u64],
 ) -> u64
-    ensures { λ n. ⌜ ((r : Count) × Sighted (record { size = size; radius = radius; cells = count; points = many })
-        (record { cells = now (cells .entry); points = now (points .entry); statuses = now (statuses .entry); blockers = now (blockers .entry); pairs = now (pairs .entry) }) (now (out .entry)) (now (out .exit)) r x y × (n ≡ told r)) ⌝ }
+    ensures { λ n. ⌜ ((r : Count) × InSight (record { size = size; radius = radius; cells = count; points = many })
+        (record { cells = now (cells .entry); points = now (points .entry); statuses = now (statuses .entry); blockers = now (blockers .entry); pairs = now (pairs .entry) }) (now (out .entry)) x y (now (out .exit)) r × (n ≡ told r)) ⌝ }
 {
     let map = Map {
         size,

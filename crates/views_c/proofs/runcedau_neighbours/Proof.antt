@@ -6,7 +6,7 @@ use mir.Syntax.{w64}
 use mir.Val.{ofZ, toZ}
 use mir.ValLaws.{toZ-ofZ}
 use Rattle.visibility.specs.declared.map.Map.{Map}
-use Rattle.views_c.specs.Told.{Beside}
+use Rattle.views.specs.Seen.{Beside}
 use Rattle.views_c.proofs.runcedau_neighbours.Statement.{statement}
 use Rattle.views_c.proofs.runcedau_neighbours.Tie as tie
 
@@ -29,8 +29,8 @@ returns c =
     let m : Map = record { size = a .size; radius = a .radius; cells = a .count; points = a .many } in
     let out = y .neighbours .last .1 .1 .1 .0 in
     let seen =
-    subst (λ (v : ℤ). Beside m (a .cells .now) (a .out .now) out r v (a .y)) (toZ-ofZ w64 (a .x) (s .fits .x))
-    (subst (λ (v : ℤ). Beside m (a .cells .now) (a .out .now) out r (toZ w64 (ofZ w64 (a .x))) v) (toZ-ofZ w64 (a .y) (s .fits .y)) (y .neighbours .ensures)) in
+    subst (λ (v : ℤ). Beside m (a .cells .now) (a .out .now) v (a .y) out r) (toZ-ofZ w64 (a .x) (s .fits .x))
+    (subst (λ (v : ℤ). Beside m (a .cells .now) (a .out .now) (toZ w64 (ofZ w64 (a .x))) v out r) (toZ-ofZ w64 (a .y) (s .fits .y)) (y .neighbours .ensures)) in
     (r, seen, c .tell .ensures)
 
 pub runcedau-neighbours-spec : {M : Type 1} → statement M

@@ -7,7 +7,7 @@ use mir.Val.{ofZ, toZ}
 use mir.ValLaws.{toZ-ofZ}
 use Rattle.visibility.specs.Holds.{Tables}
 use Rattle.visibility.specs.declared.map.Map.{Map}
-use Rattle.views_c.specs.Told.{Sighted}
+use Rattle.views.specs.Seen.{InSight}
 use Rattle.views_c.proofs.runcedau_visibility.Statement.{statement}
 use Rattle.views_c.proofs.runcedau_visibility.Tie as tie
 
@@ -31,8 +31,8 @@ returns c =
     let t : Tables = record { cells = a .cells .now; points = a .points .now; statuses = a .statuses .now; blockers = a .blockers .now; pairs = a .pairs .now } in
     let out = y .visibility-from .last .1 .1 .1 .1 .1 .1 .1 .0 in
     let seen =
-    subst (λ (v : ℤ). Sighted m t (a .out .now) out r v (a .y)) (toZ-ofZ w64 (a .x) (s .fits .x))
-    (subst (λ (v : ℤ). Sighted m t (a .out .now) out r (toZ w64 (ofZ w64 (a .x))) v) (toZ-ofZ w64 (a .y) (s .fits .y)) (y .visibility-from .ensures)) in
+    subst (λ (v : ℤ). InSight m t (a .out .now) v (a .y) out r) (toZ-ofZ w64 (a .x) (s .fits .x))
+    (subst (λ (v : ℤ). InSight m t (a .out .now) (toZ w64 (ofZ w64 (a .x))) v out r) (toZ-ofZ w64 (a .y) (s .fits .y)) (y .visibility-from .ensures)) in
     (r, seen, c .tell .ensures)
 
 pub runcedau-visibility-spec : {M : Type 1} → statement M

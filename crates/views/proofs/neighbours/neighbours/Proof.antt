@@ -6,8 +6,8 @@ use lib.ListN.{length}
 use Rattle.answers.proofs.ListingLaws.{listing-refused}
 use Rattle.answers.proofs.PassedLaws.{refused-as, lacks-short, none-short}
 use Rattle.model.specs.Limits.{maxCells, needOthers}
-use Rattle.views.proofs.CallLaws.{refusal}
-use Rattle.views.proofs.NeighbourLaws.{Going, around-fits, cells-used, lengths, steps-listed, taken-listed}
+use Rattle.views.specs.Seen.{besideLengths as lengths, refusal}
+use Rattle.views.proofs.NeighbourLaws.{Going, around-fits, cells-used, steps-listed, taken-listed}
 use Rattle.views.proofs.neighbours.neighbours.Statement.{statement}
 use Rattle.views.proofs.neighbours.neighbours.Tie as tie
 

@@ -11,8 +11,8 @@ use Rattle.model.specs.Limits.{maxCells, maxPoints, needOthers}
 use Rattle.sight.specs.Paired.{pairPlaces}
 use Rattle.table.specs.Tables.{stands}
 use Rattle.visibility.specs.Holds.{Tables}
-use Rattle.views.proofs.CallLaws.{refusal}
-use Rattle.views.proofs.VisibilityLaws.{Going, blockers-used, cells-used, lengths, paired-fits, paired-listed, points-used, row-inside, seen-fits, seen-listed, statuses-used}
+use Rattle.views.specs.Seen.{sightLengths as lengths, refusal}
+use Rattle.views.proofs.VisibilityLaws.{Going, blockers-used, cells-used, paired-fits, paired-listed, points-used, row-inside, seen-fits, seen-listed, statuses-used}
 use Rattle.views.proofs.visibility_from.visibility_from.Statement.{statement}
 use Rattle.views.proofs.visibility_from.visibility_from.Tie as tie
 
