@@ -3,6 +3,7 @@ use oracle::question::{Entry, Floor, Question};
 use oracle::stand_ins::Point;
 
 pub mod map;
+pub mod measure;
 
 unsafe extern "C" {
     pub safe fn runcedau_root(x: f64) -> f64;

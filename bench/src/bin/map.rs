@@ -1,27 +1,13 @@
 //! The proved map beside the Rust's `Visibility`, which is measured twice, with hash maps as published and with ordered maps: the
 //! same batches, applied and undone, and changes to the same radius, in one run, each side the best of many rounds.
 use bench::map::ProvedMap;
+use bench::measure::{best, floor, row, RADIUS, ROUNDS, SIZE};
 use oracle::question::Entry;
 use oracle::Random;
-use std::collections::BTreeSet;
 use std::hint::black_box;
-use std::time::Instant;
 
-const SIZE: f64 = 256.0;
-const RADIUS: f64 = 200.0;
 const POINTS: [usize; 3] = [5, 20, 60];
 const SIDES: [i64; 3] = [1, 4, 16];
-const ROUNDS: usize = 20;
-
-/// The best of the rounds, in nanoseconds for one of the `times` calls of a round.
-fn best(times: usize, mut round: impl FnMut()) -> f64 {
-    let measured = (0..ROUNDS).map(|_| {
-        let start = Instant::now();
-        round();
-        start.elapsed().as_nanos() as f64 / times as f64
-    });
-    measured.fold(f64::INFINITY, f64::min)
-}
 
 /// The Rust's map over one kind of maps.
 macro_rules! rust {
@@ -59,27 +45,6 @@ macro_rules! rust {
 
 rust!(ordered, ordered);
 rust!(published, published);
-
-/// Random cells that have as many points.
-fn floor(random: &mut Random, points: usize) -> Vec<Entry> {
-    loop {
-        let extent = 2 + points as u64 / 4;
-        let cells: BTreeSet<(i64, i64)> = (0..1 + random.below(points as u64 / 2 + 1))
-            .map(|_| (random.below(extent) as i64, random.below(extent) as i64))
-            .collect();
-        let entries: Vec<Entry> = cells.into_iter().map(|(x, y)| (x, y, true)).collect();
-        if ordered::map(&entries).debug_points().len() == points {
-            return entries;
-        }
-    }
-}
-
-fn row(name: &str, points: usize, proved: f64, published: f64, ordered: f64) {
-    println!(
-        "{name:22} {points:2} points   proved {proved:11.1} ns   Rust, hash maps {published:11.1} ns, ordered {ordered:11.1} ns   faster Rust/proved {:5.2}",
-        published.min(ordered) / proved
-    );
-}
 
 fn main() {
     let mut random = Random::default();

@@ -2,28 +2,14 @@
 //! with hash maps as published and with ordered maps: the same cells, in one run, each side the best of many rounds. Every answer is
 //! compared with the ordered Rust's first.
 use bench::map::ProvedMap;
+use bench::measure::{best, floor, row, RADIUS, ROUNDS, SIZE};
 use oracle::occupancy::Cell;
 use oracle::question::Entry;
 use oracle::{key, Random};
-use std::collections::BTreeSet;
 use std::hint::black_box;
-use std::time::Instant;
 
-const SIZE: f64 = 256.0;
-const RADIUS: f64 = 200.0;
 const POINTS: [usize; 3] = [5, 20, 64];
-const ROUNDS: usize = 20;
 const ASKED: usize = 2_000;
-
-/// The best of the rounds, in nanoseconds for one of the cells.
-fn best(mut round: impl FnMut()) -> f64 {
-    let measured = (0..ROUNDS).map(|_| {
-        let start = Instant::now();
-        round();
-        start.elapsed().as_nanos() as f64 / ASKED as f64
-    });
-    measured.fold(f64::INFINITY, f64::min)
-}
 
 /// The Rust's map over one kind of maps.
 macro_rules! rust {
@@ -42,7 +28,7 @@ macro_rules! rust {
             }
 
             pub fn visibility(map: &Map, asked: &[Cell]) -> f64 {
-                best(|| {
+                best(ASKED, || {
                     for c in asked {
                         black_box(map.calculate_visibility(Place::new(c.x, c.y)).count());
                     }
@@ -50,7 +36,7 @@ macro_rules! rust {
             }
 
             pub fn neighbors(map: &Map, asked: &[Cell]) -> f64 {
-                best(|| {
+                best(ASKED, || {
                     for c in asked {
                         black_box(map.neighbors(Place::new(c.x, c.y)).count());
                     }
@@ -63,27 +49,6 @@ macro_rules! rust {
 rust!(ordered);
 rust!(published);
 
-/// Random cells that have as many points.
-fn floor(random: &mut Random, points: usize) -> Vec<Entry> {
-    loop {
-        let extent = 2 + points as u64 / 4;
-        let cells: BTreeSet<(i64, i64)> = (0..1 + random.below(points as u64 / 2 + 1))
-            .map(|_| (random.below(extent) as i64, random.below(extent) as i64))
-            .collect();
-        let entries: Vec<Entry> = cells.into_iter().map(|(x, y)| (x, y, true)).collect();
-        if ordered::map(&entries).debug_points().len() == points {
-            return entries;
-        }
-    }
-}
-
-fn row(name: &str, points: usize, proved: f64, published: f64, ordered: f64) {
-    println!(
-        "{name:26} {points:2} points   proved {proved:9.1} ns   Rust, hash maps {published:9.1} ns, ordered {ordered:9.1} ns   faster Rust/proved {:5.2}",
-        published.min(ordered) / proved
-    );
-}
-
 /// The answers are the same, and then how long they take.
 fn measure(name: &str, points: usize, floor: &[Entry], map: &ProvedMap, asked: &[Cell]) {
     let (tree, hash) = (ordered::map(floor), published::map(floor));
@@ -94,7 +59,7 @@ fn measure(name: &str, points: usize, floor: &[Entry], map: &ProvedMap, asked: &
         let beside: Vec<u64> = tree.neighbors(*c).map(|q| key(&q)).collect();
         assert_eq!(beside, map.neighbors(c, &mut out));
     }
-    let visibility = best(|| {
+    let visibility = best(ASKED, || {
         for c in asked {
             black_box(map.calculate_visibility(c, &mut out).len());
         }
@@ -106,7 +71,7 @@ fn measure(name: &str, points: usize, floor: &[Entry], map: &ProvedMap, asked: &
         published::visibility(&hash, asked),
         ordered::visibility(&tree, asked),
     );
-    let neighbors = best(|| {
+    let neighbors = best(ASKED, || {
         for c in asked {
             black_box(map.neighbors(c, &mut out).len());
         }
