@@ -32,7 +32,7 @@ fn bad_length(x: f64) -> bool {
     bad_number(x) || x < 0.0
 }
 
-fn bad_question(question: &Question) -> bool {
+pub(crate) fn bad_question(question: &Question) -> bool {
     match *question {
         Question::Point(p) => [p.x, p.y].map(bad_number).contains(&true),
         Question::Square(p, length) | Question::Circle(p, length) => {

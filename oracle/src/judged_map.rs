@@ -1,10 +1,15 @@
 //! The Rust's `Visibility`, ordered maps, behind document 01's refusals. A refused call answers its number and alters nothing.
-use crate::judged::{bad_size, changed, judge_batch, Changes, MOST_CELLS};
-use crate::occupancy::{Cell, Grid, SparseGrid, Visibility};
-use crate::question::{Entry, Floor};
+use crate::judged::{
+    bad_question, bad_size, changed, judge_batch, Changes, MOST_CELLS, MOST_COORDINATE,
+};
+use crate::occupancy::{Cell, CornerStatus, Grid, SparseGrid, Visibility};
+use crate::question::{Entry, Floor, Question};
 
 pub const MOST_POINTS: usize = 64;
 pub const MOST_SHIFT: f64 = 64.0;
+
+/// How much further than in a batch a cell may lie that a question names.
+pub const BEYOND: i64 = 64;
 
 /// In floats, before any cast.
 pub fn shift(size: f64, radius: f64) -> f64 {
@@ -110,5 +115,55 @@ impl JudgedMap {
         }
         *self = after;
         Ok(())
+    }
+}
+
+fn off_map(cell: Cell) -> bool {
+    let allowed = -MOST_COORDINATE - BEYOND..=MOST_COORDINATE + BEYOND;
+    !allowed.contains(&cell.x) || !allowed.contains(&cell.y)
+}
+
+/// The questions and lists, which leave the map as it is. The order is the Rust's own.
+impl JudgedMap {
+    pub fn is_occupied(&self, cell: Cell) -> bool {
+        self.rust.grid().is_occupied(&cell)
+    }
+
+    pub fn ask(&self, question: &Question) -> Result<Option<Cell>, u64> {
+        if bad_question(question) {
+            return Err(8);
+        }
+        Ok(self.rust.grid().ask(question))
+    }
+
+    pub fn visibility(&self, cell: Cell) -> Result<Vec<Cell>, u64> {
+        if off_map(cell) {
+            return Err(5);
+        }
+        Ok(self.rust.calculate_visibility(cell).collect())
+    }
+
+    pub fn neighbours(&self, cell: Cell) -> Result<Vec<Cell>, u64> {
+        if off_map(cell) {
+            return Err(5);
+        }
+        Ok(self.rust.neighbors(cell).collect())
+    }
+
+    pub fn occupied_cells(&self) -> Vec<Cell> {
+        self.rust.grid().occupied_cells().copied().collect()
+    }
+
+    pub fn corners(&self) -> Vec<(Cell, CornerStatus)> {
+        let corners = self.rust.grid().corners();
+        corners.map(|(cell, status)| (*cell, *status)).collect()
+    }
+
+    pub fn free_points(&self) -> Vec<Cell> {
+        self.rust.iter_points().map(|(cell, _)| *cell).collect()
+    }
+
+    pub fn open_pairs(&self) -> Vec<(Cell, Cell)> {
+        self.rust.iter_edges().map(|(p, q)| (*p, *q)).collect()
     }
 }

@@ -1,5 +1,6 @@
 //! Floors of the kinds that vectors and benchmarks take, as sets of cells from the origin up.
 use crate::occupancy::Cell;
+use crate::question::Entry;
 use crate::Random;
 use std::collections::BTreeSet;
 
@@ -39,4 +40,25 @@ pub fn checkerboard(columns: i64, rows: i64) -> Layout {
         .into_iter()
         .filter(|cell| (cell.x + cell.y) % 2 == 0)
         .collect()
+}
+
+pub fn moved(layout: Layout, x: i64, y: i64) -> Layout {
+    layout.iter().map(|cell| cell.shifted(x, y)).collect()
+}
+
+/// Cells that stand alone, so far apart that each has four points of its own at the shifts 1 and 2.
+pub fn islands(count: i64) -> Layout {
+    (0..count)
+        .map(|i| Cell::new(i / 4 * 7 + i % 3, i % 4 * 7 + i / 4 % 2))
+        .collect()
+}
+
+/// Two cells that make an island a hook, which has five points.
+pub fn hook(at: Cell) -> [Cell; 2] {
+    [at.shifted(0, 1), at.shifted(1, 0)]
+}
+
+/// A batch of these cells.
+pub fn entries(cells: impl IntoIterator<Item = Cell>, occupied: bool) -> Vec<Entry> {
+    cells.into_iter().map(|c| (c.x, c.y, occupied)).collect()
 }

@@ -3,6 +3,7 @@
 pub mod judged;
 pub mod judged_map;
 pub mod layouts;
+pub mod map_list;
 pub mod ordered;
 pub mod published;
 pub mod question;

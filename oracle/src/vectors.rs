@@ -1,6 +1,7 @@
 //! What the lists of vectors share: bit patterns, awkward values, and the two files of a list.
 use crate::judged::Changes;
-use crate::occupancy::{Cell, Point};
+use crate::occupancy::{Cell, CornerStatus, Point};
+use crate::question::Question;
 
 pub const SIGN: u64 = 1 << 63;
 pub const INFINITY: u64 = 2047 << 52;
@@ -56,6 +57,45 @@ pub fn place(cell: Cell, size: f64, u: f64, v: f64) -> Point {
     Point::new(size * (cell.x as f64 + u), size * (cell.y as f64 + v))
 }
 
+fn name(blocker: Option<Cell>) -> String {
+    blocker.map_or("-".into(), |cell| format!("{},{}", cell.x, cell.y))
+}
+
+/// A cell and its status, as it changed or as a list has it.
+pub fn status_line(cell: &Cell, status: &CornerStatus) -> String {
+    format!("^ {} {} {}", cell.x, cell.y, status.0)
+}
+
+/// A point as listings have it.
+pub fn point_line(p: &Cell, status: CornerStatus, blocker: Option<Cell>) -> String {
+    format!("p {} {} {} {}", p.x, p.y, status.0, name(blocker))
+}
+
+/// A pair as listings have it.
+pub fn pair_line(p: Cell, q: Cell, blocker: Option<Cell>) -> String {
+    format!("e {} {} {} {} {}", p.x, p.y, q.x, q.y, name(blocker))
+}
+
+/// A question's letter and operands.
+pub fn question_line(question: &Question) -> (char, Vec<u64>) {
+    let (letter, numbers) = match *question {
+        Question::Point(p) => ('p', vec![p.x, p.y]),
+        Question::Square(p, width) => ('s', vec![p.x, p.y, width]),
+        Question::Circle(p, radius) => ('c', vec![p.x, p.y, radius]),
+        Question::Sweep(p, q, width) => ('w', vec![p.x, p.y, q.x, q.y, width]),
+    };
+    (letter, numbers.into_iter().map(pattern).collect())
+}
+
+/// The refusal, 1 or 0, and the cell that a question found.
+pub fn place_numbers(found: Result<Option<Cell>, u64>) -> [i64; 4] {
+    match found {
+        Err(refusal) => [refusal as i64, 0, 0, 0],
+        Ok(None) => [0; 4],
+        Ok(Some(cell)) => [0, 1, cell.x, cell.y],
+    }
+}
+
 /// The vectors as a program reads them, and as it is to write them.
 #[derive(Default)]
 pub struct Vectors {
@@ -99,7 +139,7 @@ impl Vectors {
             self.answer_more(&format!("= {} {} {}", cell.x, cell.y, *occupied as u8));
         }
         for (cell, status) in &changes.corners {
-            self.answer_more(&format!("^ {} {} {}", cell.x, cell.y, status.0));
+            self.answer_more(&status_line(cell, status));
         }
     }
 

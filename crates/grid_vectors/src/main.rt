@@ -10,21 +10,18 @@
 //
 // Sizes, coordinates of points, widths and radii are bit patterns of f64, the other operands are two's complements.
 use copy::copy::clear;
-use floor::cell::Cell;
 use floor::cell::is_occupied;
 use floor::floor::Floor;
 use grid::change::change_cells;
-use plane::point::Point;
-use question::search::Question;
-use questions::ask::Place;
+use question_vectors::answer_place;
+use question_vectors::cell_at;
+use question_vectors::question_at;
 use questions::ask::ask;
 use vectors::answer;
 use vectors::change::enter;
 use vectors::change::write_changes;
 use vectors::float_at;
 use vectors::integer_at;
-use vectors::signed;
-ghost use Prim.Native.Nat.{_<_};
 
 // The floor, the numbers of the batch so far, and whether there was a line.
 struct State {
@@ -33,40 +30,9 @@ struct State {
     more: bool,
 }
 
-fn point_at(line: &[u8], from: usize) -> Point
-    requires { ⌜ from < 104 ⌝ }
-{
-    Point {
-        x: float_at(line, from),
-        y: float_at(line, from + 17),
-    }
-}
-
-fn question_at(letter: u8, line: &[u8]) -> Question {
-    let p = point_at(line, 2);
-    let length = float_at(line, 36);
-    match letter {
-        b's' => Question::Square(p, length),
-        b'c' => Question::Circle(p, length),
-        b'w' => Question::Sweep(p, point_at(line, 36), float_at(line, 70)),
-        _ => Question::Point(p),
-    }
-}
-
-fn cell_at(line: &[u8]) -> Cell {
-    Cell {
-        x: integer_at(line, 2),
-        y: integer_at(line, 19),
-    }
-}
-
 fn find(letter: u8, line: &[u8], floor: Floor, cells: &[u64]) {
     let a = ask(floor, cells, question_at(letter, line));
-    let place = a.cell;
-    match place {
-        Place::Nothing => answer(line, &[a.refusal as u64, 0, 0, 0]),
-        Place::At(c) => answer(line, &[a.refusal as u64, 1, signed(c.x), signed(c.y)]),
-    }
+    answer_place(line, a);
 }
 
 fn look(line: &[u8], floor: Floor, cells: &[u64]) {

@@ -20,21 +20,10 @@ use oracle::judged::{
 use oracle::layouts::{block, checkerboard, racks, scattered, Layout};
 use oracle::occupancy::{Cell, Point, Vector};
 use oracle::question::{Entry, Question};
-use oracle::vectors::{pattern, place, stepped, Vectors, INFINITY};
+use oracle::vectors::{pattern, place, place_numbers, question_line, stepped, Vectors, INFINITY};
 use oracle::Random;
 use std::collections::BTreeMap;
 use Question::{Circle, Square, Sweep};
-
-/// Its letter and operands.
-fn line_of(question: &Question) -> (char, Vec<u64>) {
-    let (letter, numbers) = match *question {
-        Question::Point(p) => ('p', vec![p.x, p.y]),
-        Square(p, width) => ('s', vec![p.x, p.y, width]),
-        Circle(p, radius) => ('c', vec![p.x, p.y, radius]),
-        Sweep(p, q, width) => ('w', vec![p.x, p.y, q.x, q.y, width]),
-    };
-    (letter, numbers.into_iter().map(pattern).collect())
-}
 
 /// Added to a border it loses nothing of it, as long as the exponent stays.
 fn power_below(x: f64) -> f64 {
@@ -161,13 +150,10 @@ impl List {
     }
 
     fn ask(&mut self, kind: &str, question: Question) {
-        let (letter, operands) = line_of(&question);
-        let (answer, way) = match self.floor.ask(&question) {
-            Err(refusal) => ([refusal as i64, 0, 0, 0], 2),
-            Ok(None) => ([0; 4], 1),
-            Ok(Some(cell)) => ([0, 1, cell.x, cell.y], 0),
-        };
-        self.line(letter, &operands, answer);
+        let (letter, operands) = question_line(&question);
+        let found = self.floor.ask(&question);
+        let way = found.map_or(2, |cell| cell.is_none() as usize);
+        self.line(letter, &operands, place_numbers(found));
         self.tally(letter, kind, way);
     }
 

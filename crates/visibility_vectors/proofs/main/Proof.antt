@@ -11,6 +11,9 @@ abbrev μ-loop : tie.MeasureT-loop
 μ-loop cells₀ points₀ statuses₀ blockers₀ pairs₀ batch₀ state₀ turns₀ cells points statuses blockers pairs batch state turns =
     turns
 
+start-requires : tie.Need-start-requires Inv-loop μ-loop
+start-requires c κs = tt
+
 loop-holds : tie.Need-loop-holds Inv-loop μ-loop
 loop-holds c = tt
 
@@ -38,6 +41,7 @@ main-spec =
     (tie.spec
     Inv-loop
     μ-loop
+    start-requires
     loop-holds
     replay-requires
     sub-turns

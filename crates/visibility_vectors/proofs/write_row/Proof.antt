@@ -13,44 +13,44 @@ abbrev μ-loop : tie.MeasureT-loop
 loop-holds : tie.Need-loop-holds Inv-loop μ-loop
 loop-holds c = tt
 
-mul-write-pair : tie.Need-mul-write-pair Inv-loop μ-loop
-mul-write-pair c = omega arith
+mul-write-both : tie.Need-mul-write-both Inv-loop μ-loop
+mul-write-both c = omega arith
 
-element-copy-out-write-pair : tie.Need-element-copy-out-write-pair Inv-loop μ-loop
-element-copy-out-write-pair c = omega arith
+element-copy-out-write-both : tie.Need-element-copy-out-write-both Inv-loop μ-loop
+element-copy-out-write-both c = omega arith
 
-mul-write-pair-2 : tie.Need-mul-write-pair-2 Inv-loop μ-loop
-mul-write-pair-2 c = omega arith
+mul-write-both-2 : tie.Need-mul-write-both-2 Inv-loop μ-loop
+mul-write-both-2 c = omega arith
 
-element-copy-out-write-pair-2 : tie.Need-element-copy-out-write-pair-2 Inv-loop μ-loop
-element-copy-out-write-pair-2 c = omega arith
+element-copy-out-write-both-2 : tie.Need-element-copy-out-write-both-2 Inv-loop μ-loop
+element-copy-out-write-both-2 c = omega arith
 
-mul-write-pair-3 : tie.Need-mul-write-pair-3 Inv-loop μ-loop
-mul-write-pair-3 c = omega arith
+mul-write-both-3 : tie.Need-mul-write-both-3 Inv-loop μ-loop
+mul-write-both-3 c = omega arith
 
-add-write-pair : tie.Need-add-write-pair Inv-loop μ-loop
-add-write-pair c = omega arith
+add-write-both : tie.Need-add-write-both Inv-loop μ-loop
+add-write-both c = omega arith
 
-mul-write-pair-4 : tie.Need-mul-write-pair-4 Inv-loop μ-loop
-mul-write-pair-4 c = omega arith
+mul-write-both-4 : tie.Need-mul-write-both-4 Inv-loop μ-loop
+mul-write-both-4 c = omega arith
 
-element-copy-out-write-pair-3 : tie.Need-element-copy-out-write-pair-3 Inv-loop μ-loop
-element-copy-out-write-pair-3 c = omega arith
+element-copy-out-write-both-3 : tie.Need-element-copy-out-write-both-3 Inv-loop μ-loop
+element-copy-out-write-both-3 c = omega arith
 
-mul-write-pair-5 : tie.Need-mul-write-pair-5 Inv-loop μ-loop
-mul-write-pair-5 c = omega arith
+mul-write-both-5 : tie.Need-mul-write-both-5 Inv-loop μ-loop
+mul-write-both-5 c = omega arith
 
-add-write-pair-2 : tie.Need-add-write-pair-2 Inv-loop μ-loop
-add-write-pair-2 c = omega arith
+add-write-both-2 : tie.Need-add-write-both-2 Inv-loop μ-loop
+add-write-both-2 c = omega arith
 
-mul-write-pair-6 : tie.Need-mul-write-pair-6 Inv-loop μ-loop
-mul-write-pair-6 c = omega arith
+mul-write-both-6 : tie.Need-mul-write-both-6 Inv-loop μ-loop
+mul-write-both-6 c = omega arith
 
-element-copy-out-write-pair-4 : tie.Need-element-copy-out-write-pair-4 Inv-loop μ-loop
-element-copy-out-write-pair-4 c = omega arith
+element-copy-out-write-both-4 : tie.Need-element-copy-out-write-both-4 Inv-loop μ-loop
+element-copy-out-write-both-4 c = omega arith
 
-write-pair-requires : tie.Need-write-pair-requires Inv-loop μ-loop
-write-pair-requires c κs = tt
+write-both-requires : tie.Need-write-both-requires Inv-loop μ-loop
+write-both-requires c κs = tt
 
 add-j : tie.Need-add-j Inv-loop μ-loop
 add-j c = omega arith
@@ -71,19 +71,19 @@ write-row-spec =
     Inv-loop
     μ-loop
     loop-holds
-    mul-write-pair
-    element-copy-out-write-pair
-    mul-write-pair-2
-    element-copy-out-write-pair-2
-    mul-write-pair-3
-    add-write-pair
-    mul-write-pair-4
-    element-copy-out-write-pair-3
-    mul-write-pair-5
-    add-write-pair-2
-    mul-write-pair-6
-    element-copy-out-write-pair-4
-    write-pair-requires
+    mul-write-both
+    element-copy-out-write-both
+    mul-write-both-2
+    element-copy-out-write-both-2
+    mul-write-both-3
+    add-write-both
+    mul-write-both-4
+    element-copy-out-write-both-3
+    mul-write-both-5
+    add-write-both-2
+    mul-write-both-6
+    element-copy-out-write-both-4
+    write-both-requires
     add-j
     loop-less
     loop-again

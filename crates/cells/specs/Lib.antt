@@ -1,2 +1,0 @@
--- What the contracts of crate `cells` cite.
-pub mod Found

@@ -1,0 +1,225 @@
+// The lines that alter a map. Each comes back with its answer's numbers behind it, in decimals:
+//
+// o  size radius: a new map: refusal, cells, points
+// +  x y, -  x y: one more entry of the batch, that the cell be occupied, or free: no number
+// b  the batch: refusal, 1 or 0 for whether something was confirmed, confirmed changes, corner changes, cells, points; then
+//    each confirmed change on a line of its own, = x y o, and each corner change, ^ x y status
+// r  radius: the radius is changed: refusal, cells, points
+//
+// Sizes and radii are bit patterns of f64, coordinates are two's complements.
+use vectors::answer;
+use vectors::change::enter;
+use vectors::change::write_changes;
+use vectors::float_at;
+use vectors::integer_at;
+use visibility::change::Changed;
+use visibility::change::change_cells;
+use visibility::map::Map;
+use visibility::map::Outcome;
+use visibility::open::open;
+use visibility::radius::change_radius;
+
+// The map, the numbers of the batch so far, and whether there was a line.
+pub struct State {
+    pub map: Map,
+    pub used: usize,
+    pub more: bool,
+}
+
+// Before the first line: no map, as after a refused opening.
+pub fn start() -> State {
+    State {
+        map: Map {
+            size: 0.0,
+            radius: 0.0,
+            cells: 0,
+            points: 0,
+        },
+        used: 0,
+        more: true,
+    }
+}
+
+// The last state.
+pub fn stopped(state: State) -> State {
+    let mut last = state;
+    last.more = false;
+    last
+}
+
+fn answer_plain(line: &[u8], o: Outcome) {
+    answer(
+        line,
+        &[o.refusal as u64, o.map.cells as u64, o.map.points as u64],
+    );
+}
+
+fn answer_batch(line: &[u8], r: Changed) {
+    answer(
+        line,
+        &[
+            r.refusal as u64,
+            r.yes as u64,
+            r.confirmed as u64,
+            r.corners as u64,
+            r.map.cells as u64,
+            r.map.points as u64,
+        ],
+    );
+}
+
+// A new map, or what a refused opening gives, and an empty batch.
+fn begin(
+    line: &[u8],
+    cells: &mut [u64; 1024],
+    points: &mut [u64; 64],
+    statuses: &mut [u8; 64],
+    blockers: &mut [u64; 64],
+    pairs: &mut [u64; 4096],
+) -> State {
+    let size = float_at(line, 2);
+    let radius = float_at(line, 19);
+    let o = open(size, radius, cells, points, statuses, blockers, pairs);
+    answer_plain(line, o);
+    let after = o.map;
+    State {
+        map: after,
+        used: 0,
+        more: true,
+    }
+}
+
+// One more entry of the batch.
+fn add(line: &[u8], map: Map, batch: &mut [i64; 900], used: usize, full: i64) -> State {
+    answer(line, &[]);
+    let x = integer_at(line, 2);
+    let y = integer_at(line, 19);
+    State {
+        map,
+        used: enter(batch, used, x, y, full),
+        more: true,
+    }
+}
+
+// Returns the map afterwards.
+fn change(
+    line: &[u8],
+    map: Map,
+    cells: &mut [u64; 1024],
+    points: &mut [u64; 64],
+    statuses: &mut [u8; 64],
+    blockers: &mut [u64; 64],
+    pairs: &mut [u64; 4096],
+    batch: &[i64],
+) -> Map {
+    let mut confirmed = [0u64; 256];
+    let mut full = [0u8; 256];
+    let mut corners = [0u64; 2304];
+    let mut altered = [0u8; 2304];
+    let r = change_cells(
+        map,
+        cells,
+        points,
+        statuses,
+        blockers,
+        pairs,
+        batch,
+        &mut confirmed,
+        &mut full,
+        &mut corners,
+        &mut altered,
+    );
+    answer_batch(line, r);
+    write_changes(b"= ", &confirmed, &full, r.confirmed);
+    write_changes(b"^ ", &corners, &altered, r.corners);
+    let after = r.map;
+    if r.refusal == 0 { after } else { map }
+}
+
+// The batch so far, given to the map.
+fn commit(
+    line: &[u8],
+    map: Map,
+    cells: &mut [u64; 1024],
+    points: &mut [u64; 64],
+    statuses: &mut [u8; 64],
+    blockers: &mut [u64; 64],
+    pairs: &mut [u64; 4096],
+    batch: &[i64],
+    used: usize,
+) -> State {
+    let mut after = map;
+    if used <= batch.len() {
+        after = change(
+            line,
+            map,
+            cells,
+            points,
+            statuses,
+            blockers,
+            pairs,
+            &batch[..used],
+        );
+    }
+    State {
+        map: after,
+        used: 0,
+        more: true,
+    }
+}
+
+// Another radius, or the same again. Entries stay pending.
+fn set_radius(
+    line: &[u8],
+    map: Map,
+    cells: &[u64; 1024],
+    points: &mut [u64; 64],
+    statuses: &mut [u8; 64],
+    blockers: &mut [u64; 64],
+    pairs: &mut [u64; 4096],
+    used: usize,
+) -> State {
+    let radius = float_at(line, 2);
+    let o = change_radius(map, cells, points, statuses, blockers, pairs, radius);
+    answer_plain(line, o);
+    let given = o.map;
+    State {
+        map: if o.refusal == 0 { given } else { map },
+        used,
+        more: true,
+    }
+}
+
+// What the line asks for. A line of any other letter alters nothing.
+pub fn call(
+    letter: u8,
+    line: &[u8],
+    state: State,
+    cells: &mut [u64; 1024],
+    points: &mut [u64; 64],
+    statuses: &mut [u8; 64],
+    blockers: &mut [u64; 64],
+    pairs: &mut [u64; 4096],
+    batch: &mut [i64; 900],
+) -> State {
+    let map = state.map;
+    let used = state.used;
+    match letter {
+        b'o' => begin(line, cells, points, statuses, blockers, pairs),
+        b'+' => add(line, map, batch, used, 1),
+        b'-' => add(line, map, batch, used, 0),
+        b'b' => commit(
+            line,
+            map,
+            cells,
+            points,
+            statuses,
+            blockers,
+            pairs,
+            batch,
+            used,
+        ),
+        b'r' => set_radius(line, map, cells, points, statuses, blockers, pairs, used),
+        _ => state,
+    }
+}

@@ -1,0 +1,86 @@
+-- Any two outcomes that a call's contract permits are equal, of a map that is held; and where the call is refused, whatever the tables hold. Assumes nothing.
+use Prim.Native.Nat.{ℕ, zero, suc}
+use mathlib.Core.Path.{_≡_, refl, sym, _∙_}
+use mathlib.Core.Bool.{Bool, false}
+use mathlib.Core.List.{List, [], _∷_}
+use mathlib.Core.Logic.{_⊎_, ⊎-elim}
+use lib.IntN.{ℤ}
+use lib.ListN.{length}
+use Rattle.answers.proofs.ListingLaws.{Settled, list-one}
+use Rattle.answers.specs.Asking.{Listing, Output, refuseMap}
+use Rattle.answers.specs.declared.judge.Count.{Count}
+use Rattle.corner.specs.Changes.{numbered}
+use Rattle.model.specs.Answers.{corners, occupiedCells}
+use Rattle.model.specs.Limits.{maxCells, needCells}
+use Rattle.model.specs.Map as model
+use Rattle.model.specs.Maps.{keys}
+use Rattle.model.specs.Refusal.{badQuestion, short}
+use Rattle.question.specs.Question.{asked}
+use Rattle.question.specs.declared.search.Question.{Question}
+use Rattle.questions.proofs.Determinate.{place-one}
+use Rattle.questions.specs.declared.ask.Answer.{Answer}
+use Rattle.table.specs.Listed.{values}
+use Rattle.visibility.specs.declared.map.Map.{Map}
+use Rattle.occupied.specs.Found.{Asking, Telling}
+use Rattle.occupied.specs.declared.cells.Told.{Told}
+use Rattle.occupied.proofs.CellLaws.{Lent}
+
+same-told : (r q : Told) → r .refusal ≡ q .refusal → r .yes ≡ q .yes → r ≡ q
+same-told r q a b = rw (a, b) refl
+
+same-answer : (r q : Answer) → r .refusal ≡ q .refusal → r .cell ≡ q .cell → r ≡ q
+same-answer r q a b = rw (a, b) refl
+
+module _ (n : ℕ) (Hold : model.Map → Type 0) where
+  -- two that agree where n is a refusal, and where it is none
+  settled-one : {A : Type 0} (r q : A) → ((k : ℕ) → n ≡ suc k → r ≡ q) → ((M : model.Map) → Hold M → n ≡ 0 → r ≡ q) → Settled n Hold → r ≡ q
+  settled-one {A} r q f g = ⊎-elim (λ h. go (h .0) (h .1) n refl) (λ k. f (k .0) (k .1))
+    where
+      go : (M : model.Map) → Hold M → (k : ℕ) → n ≡ k → r ≡ q
+      go M h zero e = g M h e
+      go M h (suc k) e = f k e
+
+  telling-one : (x y : ℤ) (r q : Told) → Telling n Hold x y r → Telling n Hold x y q → Settled n Hold → r ≡ q
+  telling-one x y r q u v =
+      settled-one r q (λ k e. u .refused k e ∙ sym (v .refused k e)) (λ M h e. same-told r q (u .refusal ∙ sym (v .refusal)) (u .answer M h e ∙ sym (v .answer M h e)))
+
+  asking-one : (question : Question) (r q : Answer) → Asking n Hold question r → Asking n Hold question q → Settled n Hold → r ≡ q
+  asking-one question r q u v =
+      settled-one r q (λ k e. u .refused k e ∙ sym (v .refused k e))
+      (λ M h e. same-answer r q (u .refusal ∙ sym (v .refusal)) (place-one (r .cell) (q .cell) (u .answer M h e ∙ sym (v .answer M h e))))
+
+-- ---- the calls, on the cells that the map m lends
+module _ (m : Map) (cells : List ℕ) where
+  -- the refusal that is due, where l are the outputs' lengths and needs and b says whether a query number is bad
+  abbrev due : List (ℕ × ℕ) → Bool → ℕ
+  due l b = refuseMap (short ((length cells, maxCells) ∷ l)) m false b
+
+  pub occupied-one : (x y : ℤ) (r q : Told) → let n = due [] false in Telling n (Lent m cells) x y r → Telling n (Lent m cells) x y q → Settled n (Lent m cells) → r ≡ q
+  occupied-one = telling-one (due [] false) (Lent m cells)
+
+  pub ask-one : (question : Question) (r q : Answer) → let n = due [] (badQuestion (asked question)) in
+      Asking n (Lent m cells) question r → Asking n (Lent m cells) question q → Settled n (Lent m cells) → r ≡ q
+  ask-one question = asking-one (due [] (badQuestion (asked question))) (Lent m cells) question
+
+  module _ (out out₁ out₂ : List ℕ) (r q : Count) where
+    abbrev cellsTo : List ℕ → Output
+    cellsTo o = record { was = out; is = o; wanted = occupiedCells }
+
+    pub cells-one : let n = due ((length out, needCells) ∷ []) false in
+        Listing n (Lent m cells) (cellsTo out₁ ∷ []) r → Listing n (Lent m cells) (cellsTo out₂ ∷ []) q → Settled n (Lent m cells) → (r ≡ q) × (out₁ ≡ out₂)
+    cells-one u v s = let w = list-one (due ((length out, needCells) ∷ []) false) (Lent m cells) (cellsTo out₁) (cellsTo out₂) [] [] r q (refl, refl, tt) u v s in (w .0, w .1 .0)
+
+    module _ (statuses statuses₁ statuses₂ : List ℕ) where
+      abbrev cornersTo : List ℕ → Output
+      cornersTo o = record { was = out; is = o; wanted = λ M. keys (numbered (corners M)) }
+
+      abbrev statusesTo : List ℕ → Output
+      statusesTo o = record { was = statuses; is = o; wanted = λ M. values (numbered (corners M)) }
+
+      pub corners-one : let n = due ((length out, needCells) ∷ (length statuses, needCells) ∷ []) false in
+          Listing n (Lent m cells) (cornersTo out₁ ∷ statusesTo statuses₁ ∷ []) r → Listing n (Lent m cells) (cornersTo out₂ ∷ statusesTo statuses₂ ∷ []) q
+          → Settled n (Lent m cells) → (r ≡ q) × (out₁ ≡ out₂) × (statuses₁ ≡ statuses₂)
+      corners-one u v s =
+          let n = due ((length out, needCells) ∷ (length statuses, needCells) ∷ []) false in
+          let w = list-one n (Lent m cells) (cornersTo out₁) (cornersTo out₂) (statusesTo statuses₁ ∷ []) (statusesTo statuses₂ ∷ []) r q (refl, refl, (refl, refl, tt)) u v s in
+          (w .0, w .1 .0, w .1 .1 .0)

@@ -1,0 +1,4 @@
+-- The laws of crate `occupied`.
+pub mod CellLaws
+pub mod Determinate
+pub mod FoundLaws

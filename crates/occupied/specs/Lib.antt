@@ -1,0 +1,2 @@
+-- What the contracts of crate `occupied` cite.
+pub mod Found

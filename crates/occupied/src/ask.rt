@@ -1,0 +1,43 @@
+// The question of four shapes, put to a map.
+use answers::judge::lacks;
+use answers::judge::refuse;
+use question::search::Question;
+use question::search::search;
+use questions::ask::Answer;
+use questions::ask::Place;
+use questions::ask::place_of;
+use questions::judge::bad_question;
+use visibility::map::Map;
+ghost use mathlib.Core.Path.{_≡_};
+ghost use mathlib.Core.Bool.{false};
+ghost use mathlib.Core.List.{[], _∷_};
+ghost use lib.ListN.{length};
+ghost use Rattle.answers.specs.Asking.{HoldsSome, refuseMap};
+ghost use Rattle.model.specs.Limits.{maxCells};
+ghost use Rattle.model.specs.Refusal.{badQuestion, short};
+ghost use Rattle.question.specs.Question.{asked};
+ghost use Rattle.occupied.specs.Found.{Asking};
+
+// The first occupied cell of the map, by x, then y, that qualifies.
+pub fn ask(map: Map, cells: &[u64], question: Question) -> Answer
+    ensures { λ r. ⌜ Asking (refuseMap (short ((length (now (cells .entry)), maxCells) ∷ [])) map false (badQuestion (asked question))) (HoldsSome map (λ t. t .cells ≡ now (cells .entry))) question r ⌝ }
+{
+    let number = refuse(
+        lacks(cells.len(), 1024, false),
+        map,
+        false,
+        bad_question(question),
+    );
+    if number != 0 {
+        return Answer {
+            refusal: number,
+            cell: Place::Nothing,
+        };
+    }
+    let n = map.cells;
+    let found = search(map.size, &cells[..n], question);
+    Answer {
+        refusal: 0,
+        cell: place_of(found),
+    }
+}
