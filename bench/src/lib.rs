@@ -2,6 +2,23 @@
 use oracle::question::{Entry, Floor, Question};
 use oracle::stand_ins::Point;
 
+/// Calls a function of an archive: `in` and `out` hand over a slice, as its pointer and its length.
+///
+/// SAFETY: every pointer is of a slice of the length given, and each call below hands over distinct slices, so no two overlap.
+macro_rules! lent {
+    (@ $f:path, [$($done:tt)*]) => { unsafe { $f($($done)*) } };
+    (@ $f:path, [$($done:tt)*] in $slice:expr, $($rest:tt)*) => {
+        lent!(@ $f, [$($done)* $slice.as_ptr(), $slice.len(),] $($rest)*)
+    };
+    (@ $f:path, [$($done:tt)*] out $slice:expr, $($rest:tt)*) => {
+        lent!(@ $f, [$($done)* $slice.as_mut_ptr(), $slice.len(),] $($rest)*)
+    };
+    (@ $f:path, [$($done:tt)*] $plain:expr, $($rest:tt)*) => {
+        lent!(@ $f, [$($done)* $plain,] $($rest)*)
+    };
+    ($f:path, $($args:tt)*) => { lent!(@ $f, [] $($args)*) };
+}
+
 pub mod map;
 pub mod measure;
 
@@ -55,21 +72,7 @@ pub fn near_cells(
     near: &mut [u8],
 ) -> bool {
     let [x0, y0, x1, y1] = *segment;
-    // SAFETY: both pointers are of slices of the lengths given, and only `near` is written.
-    unsafe {
-        segment::runcedau_near_cells(
-            x0,
-            y0,
-            x1,
-            y1,
-            size,
-            radius,
-            cells.as_ptr(),
-            cells.len(),
-            near.as_mut_ptr(),
-            near.len(),
-        )
-    }
+    lent!(segment::runcedau_near_cells, x0, y0, x1, y1, size, radius, in cells, out near,)
 }
 
 /// The archive of `rt staticlib grid_c`.
@@ -167,27 +170,11 @@ impl Floor for Proved {
     }
 
     fn change(&mut self, batch: &Vec<i64>) -> u8 {
-        // SAFETY: every pointer is of a slice of the length given, and no two slices overlap.
-        let refusal = unsafe {
-            grid::runcedau_change_cells(
-                self.size,
-                self.count,
-                self.cells.as_mut_ptr(),
-                self.cells.len(),
-                batch.as_ptr(),
-                batch.len(),
-                self.confirmed.as_mut_ptr(),
-                self.confirmed.len(),
-                self.full.as_mut_ptr(),
-                self.full.len(),
-                self.corners.as_mut_ptr(),
-                self.corners.len(),
-                self.statuses.as_mut_ptr(),
-                self.statuses.len(),
-                self.counts.as_mut_ptr(),
-                self.counts.len(),
-            )
-        };
+        let refusal = lent!(
+            grid::runcedau_change_cells, self.size, self.count, out self.cells, in batch,
+            out self.confirmed, out self.full, out self.corners, out self.statuses,
+            out self.counts,
+        );
         if refusal == 0 {
             self.count = self.counts[2] as usize;
         }
@@ -202,21 +189,10 @@ impl Floor for Proved {
             Question::Circle(p, radius) => (2, p, none, radius),
             Question::Sweep(p, q, width) => (3, p, q, width),
         };
-        // SAFETY: the pointer is of a slice of the length given, and nothing is written.
-        unsafe {
-            grid::runcedau_ask(
-                shape,
-                self.size,
-                p.x,
-                p.y,
-                q.x,
-                q.y,
-                length,
-                self.count,
-                self.cells.as_ptr(),
-                self.cells.len(),
-            )
-        }
+        lent!(
+            grid::runcedau_ask, shape, self.size, p.x, p.y, q.x, q.y, length, self.count,
+            in self.cells,
+        )
     }
 
     fn found(&self, question: &Question) -> u64 {

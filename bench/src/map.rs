@@ -135,23 +135,10 @@ impl ProvedMap {
             altered: vec![0; 2_304],
             counts: [0; 4],
         };
-        // SAFETY: every pointer is of a slice of the length given, and no two slices overlap.
-        let refusal = unsafe {
-            runcedau_map_open(
-                size,
-                radius,
-                map.cells.as_mut_ptr(),
-                map.cells.len(),
-                map.points.as_mut_ptr(),
-                map.points.len(),
-                map.statuses.as_mut_ptr(),
-                map.statuses.len(),
-                map.blockers.as_mut_ptr(),
-                map.blockers.len(),
-                map.pairs.as_mut_ptr(),
-                map.pairs.len(),
-            )
-        };
+        let refusal = lent!(
+            runcedau_map_open, size, radius, out map.cells, out map.points, out map.statuses,
+            out map.blockers, out map.pairs,
+        );
         if refusal == 0 {
             Ok(map)
         } else {
@@ -168,37 +155,12 @@ impl ProvedMap {
     }
 
     pub fn change_cells(&mut self, batch: &[i64]) -> u8 {
-        // SAFETY: as above.
-        let refusal = unsafe {
-            runcedau_map_change_cells(
-                self.size,
-                self.radius,
-                self.count,
-                self.many,
-                self.cells.as_mut_ptr(),
-                self.cells.len(),
-                self.points.as_mut_ptr(),
-                self.points.len(),
-                self.statuses.as_mut_ptr(),
-                self.statuses.len(),
-                self.blockers.as_mut_ptr(),
-                self.blockers.len(),
-                self.pairs.as_mut_ptr(),
-                self.pairs.len(),
-                batch.as_ptr(),
-                batch.len(),
-                self.confirmed.as_mut_ptr(),
-                self.confirmed.len(),
-                self.full.as_mut_ptr(),
-                self.full.len(),
-                self.corners.as_mut_ptr(),
-                self.corners.len(),
-                self.altered.as_mut_ptr(),
-                self.altered.len(),
-                self.counts.as_mut_ptr(),
-                self.counts.len(),
-            )
-        };
+        let refusal = lent!(
+            runcedau_map_change_cells, self.size, self.radius, self.count, self.many,
+            out self.cells, out self.points, out self.statuses, out self.blockers,
+            out self.pairs, in batch, out self.confirmed, out self.full, out self.corners,
+            out self.altered, out self.counts,
+        );
         if refusal == 0 {
             self.count = self.counts[2] as usize;
             self.many = self.counts[3] as usize;
@@ -207,28 +169,11 @@ impl ProvedMap {
     }
 
     pub fn change_radius(&mut self, wanted: f64) -> u8 {
-        // SAFETY: as above.
-        let refusal = unsafe {
-            runcedau_map_change_radius(
-                self.size,
-                self.radius,
-                self.count,
-                self.many,
-                self.cells.as_ptr(),
-                self.cells.len(),
-                self.points.as_mut_ptr(),
-                self.points.len(),
-                self.statuses.as_mut_ptr(),
-                self.statuses.len(),
-                self.blockers.as_mut_ptr(),
-                self.blockers.len(),
-                self.pairs.as_mut_ptr(),
-                self.pairs.len(),
-                wanted,
-                self.counts.as_mut_ptr(),
-                self.counts.len(),
-            )
-        };
+        let refusal = lent!(
+            runcedau_map_change_radius, self.size, self.radius, self.count, self.many,
+            in self.cells, out self.points, out self.statuses, out self.blockers, out self.pairs,
+            wanted, out self.counts,
+        );
         if refusal == 0 {
             self.radius = wanted;
             self.many = self.counts[0] as usize;
@@ -242,48 +187,19 @@ impl ProvedMap {
     }
 
     pub fn neighbors<'a>(&self, of_cell: &Cell, out: &'a mut [u64; 64]) -> &'a [u64] {
-        // SAFETY: as above.
-        let answer = unsafe {
-            runcedau_neighbours(
-                self.size,
-                self.radius,
-                self.count,
-                self.many,
-                self.cells.as_ptr(),
-                self.cells.len(),
-                of_cell.x,
-                of_cell.y,
-                out.as_mut_ptr(),
-                out.len(),
-            )
-        };
+        let answer = lent!(
+            runcedau_neighbours, self.size, self.radius, self.count, self.many, in self.cells,
+            of_cell.x, of_cell.y, out out,
+        );
         Self::listed(answer, out)
     }
 
     pub fn calculate_visibility<'a>(&self, cell: &Cell, out: &'a mut [u64; 64]) -> &'a [u64] {
-        // SAFETY: as above.
-        let answer = unsafe {
-            runcedau_visibility(
-                self.size,
-                self.radius,
-                self.count,
-                self.many,
-                self.cells.as_ptr(),
-                self.cells.len(),
-                self.points.as_ptr(),
-                self.points.len(),
-                self.statuses.as_ptr(),
-                self.statuses.len(),
-                self.blockers.as_ptr(),
-                self.blockers.len(),
-                self.pairs.as_ptr(),
-                self.pairs.len(),
-                cell.x,
-                cell.y,
-                out.as_mut_ptr(),
-                out.len(),
-            )
-        };
+        let answer = lent!(
+            runcedau_visibility, self.size, self.radius, self.count, self.many, in self.cells,
+            in self.points, in self.statuses, in self.blockers, in self.pairs, cell.x, cell.y,
+            out out,
+        );
         Self::listed(answer, out)
     }
 

@@ -18,6 +18,9 @@ use visibility::map::Map;
 use visibility::map::Outcome;
 use visibility::open::open;
 use visibility::radius::change_radius;
+ghost use mathlib.Core.Path.{_≡_};
+ghost use mathlib.Core.Bool.{false, true};
+ghost use Rattle.visibility.specs.Open.{noMap};
 
 // The map, the numbers of the batch so far, and whether there was a line.
 pub struct State {
@@ -27,7 +30,9 @@ pub struct State {
 }
 
 // Before the first line: no map, as after a refused opening.
-pub fn start() -> State {
+pub fn start() -> State
+    ensures { λ r. ⌜ r ≡ record { map = noMap; used = 0; more = true } ⌝ }
+{
     State {
         map: Map {
             size: 0.0,
@@ -41,7 +46,9 @@ pub fn start() -> State {
 }
 
 // The last state.
-pub fn stopped(state: State) -> State {
+pub fn stopped(state: State) -> State
+    ensures { λ r. ⌜ r ≡ record { map = state .map; used = state .used; more = false } ⌝ }
+{
     let mut last = state;
     last.more = false;
     last

@@ -8,10 +8,17 @@ use vectors::answer;
 use vectors::float_at;
 use vectors::integer_at;
 use vectors::signed;
+ghost use mathlib.Core.Path.{_≡_};
 ghost use Prim.Native.Nat.{_<_};
+ghost use Rattle.plane.specs.Values.{pt};
+ghost use Rattle.question.specs.Question.{asked};
+ghost use Rattle.vectors.specs.Vectors.{integerOf, patternAt};
+ghost use Rattle.question_vectors.specs.Lines.{pointAt, questionAt, shaped};
 
 // Column and row.
-pub fn cell_at(line: &[u8]) -> Cell {
+pub fn cell_at(line: &[u8]) -> Cell
+    ensures { λ r. ⌜ (r .x ≡ integerOf (patternAt (now (line .entry)) 2)) × (r .y ≡ integerOf (patternAt (now (line .entry)) 19)) ⌝ }
+{
     Cell {
         x: integer_at(line, 2),
         y: integer_at(line, 19),
@@ -20,6 +27,7 @@ pub fn cell_at(line: &[u8]) -> Cell {
 
 fn point_at(line: &[u8], from: usize) -> Point
     requires { ⌜ from < 104 ⌝ }
+    ensures { λ r. ⌜ pt r ≡ pointAt (now (line .entry)) from ⌝ }
 {
     Point {
         x: float_at(line, from),
@@ -27,16 +35,29 @@ fn point_at(line: &[u8], from: usize) -> Point
     }
 }
 
-// p  x y, s  x y width, c  x y radius, w  x0 y0 x1 y1 width
-pub fn question_at(letter: u8, line: &[u8]) -> Question {
-    let p = point_at(line, 2);
-    let length = float_at(line, 36);
-    match letter {
-        b's' => Question::Square(p, length),
-        b'c' => Question::Circle(p, length),
-        b'w' => Question::Sweep(p, point_at(line, 36), float_at(line, 70)),
-        _ => Question::Point(p),
+// The letter's shape: s, c and w, or any other for a point.
+fn shape_of(letter: u8, p: Point, q: Point, length: f64, width: f64) -> Question
+    ensures { λ r. ⌜ asked r ≡ shaped letter (pt p) (pt q) length width ⌝ }
+{
+    if letter == b's' {
+        return Question::Square(p, length);
     }
+    if letter == b'c' {
+        return Question::Circle(p, length);
+    }
+    if letter == b'w' {
+        return Question::Sweep(p, q, width);
+    }
+    Question::Point(p)
+}
+
+// p  x y, s  x y width, c  x y radius, w  x0 y0 x1 y1 width
+pub fn question_at(letter: u8, line: &[u8]) -> Question
+    ensures { λ r. ⌜ asked r ≡ questionAt letter (now (line .entry)) ⌝ }
+{
+    let p = point_at(line, 2);
+    let q = point_at(line, 36);
+    shape_of(letter, p, q, float_at(line, 36), float_at(line, 70))
 }
 
 // The refusal, 1 or 0, and the cell found.

@@ -5,4 +5,5 @@ pub mod judge;
 mod layer;
 pub mod map;
 pub mod open;
+mod plan;
 pub mod radius;

@@ -1,4 +1,4 @@
--- `change::list_changes`: the confirmed changes, then the corners around them. Assumes nothing.
+-- `plan::list_changes`: the confirmed changes, then the corners around them. Assumes nothing.
 use Prim.Native.Nat.{_≤_, _*_}
 use native.Mathlib.Omega.{arith}
 use mathlib.Core.Path.{_≡_, sym}
@@ -7,8 +7,8 @@ use lib.Seq.{length-take-le}
 use borrow.Author.Needs.{needs}
 use Rattle.floor.specs.Batches.{entries}
 use Rattle.grid.proofs.ApplyLaws.{corners-listed}
-use Rattle.visibility.proofs.change.list_changes.Statement.{statement}
-use Rattle.visibility.proofs.change.list_changes.Tie as tie
+use Rattle.visibility.proofs.plan.list_changes.Statement.{statement}
+use Rattle.visibility.proofs.plan.list_changes.Tie as tie
 
 -- the places: the start, the confirmed changes
 abbrev start : tie.After-confirm → tie.Start

@@ -1,12 +1,12 @@
--- `change::work_out`: the lists, and the points that the marks leave. Assumes nothing.
+-- `plan::work_out`: the lists, and the points that the marks leave. Assumes nothing.
 use Prim.Native.Nat.{_≤_}
 use mathlib.Core.Path.{_≡_, sym, ap, _∙_}
 use lib.ListN.{length}
 use lib.Seq.{length-take-le}
 use Rattle.floor.specs.Batches.{entries}
 use Rattle.visibility.proofs.UpdateLaws.{planned, reaches}
-use Rattle.visibility.proofs.change.work_out.Statement.{statement}
-use Rattle.visibility.proofs.change.work_out.Tie as tie
+use Rattle.visibility.proofs.plan.work_out.Statement.{statement}
+use Rattle.visibility.proofs.plan.work_out.Tie as tie
 
 -- the places: the start; the lists; the shift; the points that the marks leave
 abbrev start : tie.After-list-changes-arg → tie.Start

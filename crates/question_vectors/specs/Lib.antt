@@ -1,0 +1,2 @@
+-- What the contracts of crate `question_vectors` cite.
+pub mod Lines
