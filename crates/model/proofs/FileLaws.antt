@@ -2,14 +2,13 @@
 use Prim.Native.Nat.{ℕ, zero, suc, _+_, _*_, _/_, _<_}
 use native.Mathlib.Nat.{not-suc-le-zero}
 use native.Mathlib.Omega.{arith}
-use mathlib.Core.Bool.{Bool, true, false, not, cond, _&&_}
+use mathlib.Core.Bool.{Bool, true, false, cond}
 use mathlib.Core.List.{List, [], _∷_}
-use lib.Dec.{eqb, ltb}
+use lib.Dec.{eqb}
 use lib.ListN.{length, take, drop, length-drop}
-use Rattle.model.specs.Limits.{maxBatch}
 use Rattle.model.specs.Map.{batch}
-use Rattle.model.specs.Refusal.{firstOf, badSize, badRadius, refusal, step, nothing, opened}
-use Rattle.model.specs.MapFile.{float64, entryBytes, entries, badFlag, fitting, onward, Expected, size, radius, batches, end, Reader, begin, Reading, more, refused, done, placed, takeSize, takeRadius, takeBatch, takeEnd, taken, sized, tagged, stopped, oneField, readOn, readFile}
+use Rattle.model.specs.Refusal.{badSize, badRadius, refusal, step, nothing, opened}
+use Rattle.model.specs.MapFile.{due, float64, entryBytes, entries, onward, Expected, size, radius, batches, end, Reader, begin, Reading, more, refused, done, placed, takeSize, takeRadius, takeBatch, takeEnd, taken, sized, tagged, stopped, oneField, readOn, readFile}
 
 -- a reading that is over, and one that has fewer than n bytes left
 abbrev pub Ended : Reading → Type 0
@@ -41,9 +40,8 @@ taken-shorter n end r t v rest h = tt
 sized-shorter : (m : ℕ) (r : Reader) (t n : ℕ) (b : List ℕ) → length b < m → Shorter m (sized r t n b)
 unfolding sized
 sized-shorter m r t n b h =
-    let v = take n b in
-    let due = firstOf ((3, eqb t 3 && ltb (entryBytes * maxBatch) n) ∷ (10, not (fitting t n)) ∷ (10, ltb (length b) n) ∷ (10, eqb t 3 && badFlag (n / entryBytes) v) ∷ []) in
-    either m (eqb due 0) (taken (r .expected) r t v (drop n b)) (refused due (r .field)) (taken-shorter m (r .expected) r t v (drop n b) (let e = length-drop n b in omega arith)) tt
+    either m (eqb (due t n b) 0) (taken (r .expected) r t (take n b) (drop n b)) (refused (due t n b) (r .field))
+    (taken-shorter m (r .expected) r t (take n b) (drop n b) (let e = length-drop n b in omega arith)) tt
 
 tagged-shorter : (r : Reader) (t : ℕ) (b : List ℕ) → Shorter (suc (length b)) (tagged r t b)
 tagged-shorter r t [] = tt

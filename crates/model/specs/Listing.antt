@@ -42,18 +42,27 @@ blockerText none = text "-"
 blockerText (some k) = signed (xOf k) ++ text "," ++ signed (yOf k)
 
 -- ---- lines
+abbrev pub pointLine : ℕ → ℕ → Option ℕ → List ℕ
+pointLine k status block = text "p " ++ cellText k ++ text " " ++ decimal status ++ text " " ++ blockerText block ++ text "\n"
+
 unfoldable pub pointLines : Points → List ℕ
 pointLines [] = []
-pointLines (p ∷ l) = text "p " ++ cellText (p .0) ++ text " " ++ decimal (number (p .1 .bits)) ++ text " " ++ blockerText (p .1 .block) ++ text "\n" ++ pointLines l
+pointLines (p ∷ l) = pointLine (p .0) (number (p .1 .bits)) (p .1 .block) ++ pointLines l
+
+abbrev pub pairLine : ℕ → ℕ → Option ℕ → List ℕ
+pairLine j k block = text "e " ++ cellText j ++ text " " ++ cellText k ++ text " " ++ blockerText block ++ text "\n"
 
 unfoldable pub pairLines : List Pair → List ℕ
 pairLines [] = []
-pairLines (p ∷ l) = text "e " ++ cellText (p .lesser) ++ text " " ++ cellText (p .greater) ++ text " " ++ blockerText (p .block) ++ text "\n" ++ pairLines l
+pairLines (p ∷ l) = pairLine (p .lesser) (p .greater) (p .block) ++ pairLines l
+
+abbrev pub countsLine : ℕ → ℕ → ℕ → ℕ → ℕ → ℕ → List ℕ
+countsLine cells corner points edges free blocks =
+    text "cells " ++ decimal cells ++ text " corners " ++ decimal corner ++ text " points " ++ decimal points ++ text " edges " ++ decimal edges ++ text " open " ++ decimal free
+    ++ text " blocks " ++ decimal blocks ++ text "\n"
 
 unfoldable pub summary : Map → List ℕ
-summary m =
-    text "cells " ++ decimal (length (m .cells)) ++ text " corners " ++ decimal (length (corners m)) ++ text " points " ++ decimal (length (points m))
-    ++ text " edges " ++ decimal (length (allPairs m)) ++ text " open " ++ decimal (length (openPairs m)) ++ text " blocks " ++ decimal (blockCount (m .cells)) ++ text "\n"
+summary m = countsLine (length (m .cells)) (length (corners m)) (length (points m)) (length (allPairs m)) (length (openPairs m)) (blockCount (m .cells))
 
 unfoldable pub refusedLine : ℕ → ℕ → List ℕ
 refusedLine n f = text "refused " ++ decimal n ++ text " at " ++ decimal f ++ text "\n"

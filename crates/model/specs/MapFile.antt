@@ -97,13 +97,16 @@ taken radius r t v rest = takeRadius r v rest
 taken batches r t v rest = let a = takeBatch r v rest in let b = takeEnd r rest in cond (eqb t 3) a b
 taken end r t v rest = refused 10 (r .field)
 
--- the length before the value: 3 for a well-placed 03 that is too long, whether its value is there or not; else 10
+-- the length before the value: 3 for a well-placed 03 that is too long, whether its value is there or not; else 10. b is what follows the length
+abbrev pub due : ℕ → ℕ → List ℕ → ℕ
+due t n b =
+    firstOf ((3, eqb t 3 && ltb (entryBytes * maxBatch) n) ∷ (10, not (fitting t n)) ∷ (10, ltb (length b) n) ∷ (10, eqb t 3 && badFlag (n / entryBytes) (take n b)) ∷ [])
+
 unfoldable pub sized : Reader → ℕ → ℕ → List ℕ → Reading
 sized r t n b =
-    let v = take n b in
-    let due = firstOf ((3, eqb t 3 && ltb (entryBytes * maxBatch) n) ∷ (10, not (fitting t n)) ∷ (10, ltb (length b) n) ∷ (10, eqb t 3 && badFlag (n / entryBytes) v) ∷ []) in
-    let good = taken (r .expected) r t v (drop n b) in
-    cond (eqb due 0) good (refused due (r .field))
+    let k = due t n b in
+    let good = taken (r .expected) r t (take n b) (drop n b) in
+    cond (eqb k 0) good (refused k (r .field))
 
 -- a tag before its length
 abbrev pub tagged : Reader → ℕ → List ℕ → Reading
