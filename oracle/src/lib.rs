@@ -3,6 +3,8 @@
 pub mod judged;
 pub mod judged_map;
 pub mod layouts;
+pub mod listing;
+pub mod map_files;
 pub mod map_list;
 pub mod ordered;
 pub mod published;
