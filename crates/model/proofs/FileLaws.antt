@@ -16,7 +16,7 @@ Ended (more r b) = ⊥
 Ended (refused k f) = Unit {0}
 Ended (done m) = Unit {0}
 
-abbrev Shorter : ℕ → Reading → Type 0
+abbrev pub Shorter : ℕ → Reading → Type 0
 Shorter n (more r b) = length b < n
 Shorter n (refused k f) = Unit {0}
 Shorter n (done m) = Unit {0}
@@ -49,7 +49,7 @@ tagged-shorter r t (h ∷ []) = tt
 tagged-shorter r t (h ∷ l ∷ b) = sized-shorter (suc (suc (suc (length b)))) r t (h * 256 + l) b (omega arith)
 
 -- a field takes bytes, or the reading is over
-field-shorter : (r : Reader) (b : List ℕ) (n : ℕ) → length b < suc n → Shorter n (oneField r b)
+pub field-shorter : (r : Reader) (b : List ℕ) (n : ℕ) → length b < suc n → Shorter n (oneField r b)
 unfolding oneField
 field-shorter r [] n h = at (r .expected)
   where

@@ -1,0 +1,3 @@
+-- What the contracts of crate `fields` cite.
+pub mod Fields
+pub mod Windows
