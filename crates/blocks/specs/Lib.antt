@@ -1,0 +1,3 @@
+-- What the contracts of crate `blocks` cite.
+pub mod Forest
+pub mod Grown

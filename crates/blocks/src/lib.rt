@@ -1,0 +1,3 @@
+// How many blocks occupied cells make.
+pub mod count;
+mod forest;

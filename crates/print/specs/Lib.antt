@@ -1,0 +1,2 @@
+-- What the contracts of crate `print` cite.
+pub mod Printed

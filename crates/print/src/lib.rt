@@ -1,0 +1,8 @@
+// The lines of a listing, as bytes in a lent buffer. Each function writes from a place on, and returns the place behind.
+mod bytes;
+mod cell;
+pub mod counts;
+pub mod pairs;
+pub mod points;
+pub mod refusal;
+mod room;
