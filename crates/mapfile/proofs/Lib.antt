@@ -1,0 +1,6 @@
+-- The laws of crate `mapfile`.
+pub mod BatchLaws
+pub mod Determinate
+pub mod FieldLaws
+pub mod RadiusLaws
+pub mod TakeLaws

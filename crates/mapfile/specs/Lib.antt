@@ -1,0 +1,2 @@
+-- What the contracts of crate `mapfile` cite.
+pub mod Reads

@@ -1,0 +1,3 @@
+-- The laws of crate `window`.
+pub mod Down
+pub mod Whole

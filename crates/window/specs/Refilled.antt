@@ -1,0 +1,37 @@
+-- A window of a buffer: the bytes that were read and not yet used. Definitions only.
+use Prim.Native.Nat.{ℕ, _-_, _≤_}
+use mathlib.Core.Path.{_≡_}
+use mathlib.Core.Logic.{_⊎_}
+use mathlib.Core.Bool.{true, false}
+use mathlib.Core.List.{List, _++_}
+use lib.ListN.{drop, length, take}
+use Rattle.window.specs.declared.input.Window.{Window}
+
+-- the bytes from one place up to another
+abbrev pub bytesOf : Window → List ℕ → List ℕ
+bytesOf w b = take (w .end - w .from) (drop (w .from) b)
+
+-- the window w lies within the buffer b
+abbrev pub Within : Window → List ℕ → Type 0
+Within w b = (w .from ≤ w .end) × (w .end ≤ length b)
+
+-- a tag, a length, and the longest value that fits (`fields`, Windows.antt)
+abbrev pub wanted : ℕ
+wanted = 2307
+
+-- b became b′, of which r has the first `have` bytes still and what came behind them; it has all of b′ unless the input ended
+pub record Filled (have : ℕ) (r : Window) (b b′ : List ℕ) : Type 0 where
+  pub front : r .from ≡ 0
+  pub behind : have ≤ r .end
+  pub inside : r .end ≤ length b′
+  pub kept : take have b′ ≡ take have b
+  pub full : r .ended ≡ false → r .end ≡ length b′
+
+-- w of b became w′ of b′: nothing is lost, what is new stands behind, and there are enough bytes then, unless the input ended or the buffer is shorter than that
+pub record Refilled (w w′ : Window) (b b′ : List ℕ) : Type 0 where
+  pub inside : Within w′ b′
+  pub long : length b′ ≡ length b
+  pub kept : Within w b → (a : List ℕ) × (bytesOf w′ b′ ≡ bytesOf w b ++ a)
+  pub enough : wanted ≤ length b → Within w b → (w′ .ended ≡ true) ⊎ (wanted ≤ w′ .end - w′ .from)
+  -- a window that has no place in the buffer is told as a failure
+  pub outside : (Within w b → ⊥) → w′ .failed ≡ true

@@ -1,0 +1,2 @@
+// Standard input through a buffer of fixed length.
+pub mod input;
