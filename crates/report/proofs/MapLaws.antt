@@ -1,0 +1,131 @@
+-- What a listing's calls write, put together: the counts, the points and the pairs of a map that is held. Assumes nothing.
+use Prim.Native.Nat.{ℕ, _+_, _*_, _≤_, _<_}
+use native.Mathlib.Nat.{zero-add}
+use native.Mathlib.Omega.{arith}
+use mathlib.Core.Path.{_≡_, refl, sym, ap, _∙_}
+use mathlib.Core.List.{List, [], _∷_, _++_}
+use mathlib.Core.Logic.{_⊎_, ⊎-elim}
+use lib.Dec.{leb}
+use lib.ListN.{drop, length, length-append, length-drop, take}
+use lib.Seq.{take-at}
+use borrow.Author.Tests.{le-leb}
+use Rattle.answers.specs.Asking.{Written}
+use Rattle.edges.specs.Columns.{greaters, lessers, pairBlocks}
+use Rattle.floor.proofs.FloorLaws.{holds-cells}
+use Rattle.marks.proofs.BeginLaws.{statuses-length}
+use Rattle.marks.specs.Marked.{statusesOf}
+use Rattle.model.specs.Answers.{allPairs, corners, openPairs}
+use Rattle.model.specs.Answers as asked
+use Rattle.model.specs.Blocks.{blockCount}
+use Rattle.model.specs.Layer.{Pair, Points}
+use Rattle.model.specs.Listing.{countsLine, listed, summary}
+use Rattle.model.specs.Map as model
+use Rattle.model.specs.MapFile.{done}
+use Rattle.model.specs.Maps.{AscL, keys}
+use Rattle.print.proofs.PrintLaws.{has-room}
+use Rattle.print.proofs.PutLaws.{put-long, put-then}
+use Rattle.print.specs.Printed.{Printed, Put, firstRoom, lineRoom, pairRows, pointRows, roomFor}
+use Rattle.print.specs.declared.counts.Counts.{Counts}
+use Rattle.sight.specs.Blocked.{codes}
+use Rattle.table.proofs.ListedLaws.{keys-length}
+use Rattle.visibility.proofs.LayerLaws.{codes-count, layer-blocks, layer-keys, layer-statuses}
+use Rattle.visibility.proofs.NamedLaws.{blocks-named}
+use Rattle.visibility.specs.Holds.{Holds, Tables}
+use Rattle.visibility.specs.Layers.{blocksOf}
+use Rattle.visibility.specs.declared.map.Map.{Map}
+use Rattle.report.proofs.ColumnLaws.{lessers-length, pair-rows, pairs-told, point-rows}
+
+-- ---- counts
+-- those of the map M, with so many points and pairs
+abbrev pub countsOf : model.Map → ℕ → ℕ → Counts
+countsOf M points edges = record { cells = length (M .cells); corners = length (corners M); points = points; edges = edges; «open» = length (openPairs M); blocks = blockCount (M .cells) }
+
+module _ (m : Map) (t : Tables) (M : model.Map) (h : Holds m t M) (cells : List ℕ) (e : t .cells ≡ cells) where
+  pub counted : (a b c points edges : ℕ) → a ≡ length (corners M) → b ≡ length (openPairs M)
+      → (length (take (m .cells) cells) ≤ 1024 → AscL 0 (take (m .cells) cells) → c ≡ blockCount (take (m .cells) cells))
+      → _≡_ {A = Counts} (record { cells = m .cells; corners = a; points = points; edges = edges; «open» = b; blocks = c }) (countsOf M points edges)
+  counted a b c points edges f g k =
+      let u : take (m .cells) cells ≡ M .cells = ap (take (m .cells)) (sym e) ∙ holds-cells (t .cells) (m .cells) (M .cells) (h .cells) in
+      let v : c ≡ blockCount (M .cells) = rw u at k (h .cells .room) (h .cells .order) in
+      rw (f, g, v, h .cells .count) refl
+
+-- ---- three texts, each with the room that was asked for
+pub put-front : {s o o′ : List ℕ} {c : ℕ} → Put s 0 c o o′ → (c ≡ length s) × (o′ ≡ s ++ drop c o)
+put-front p = (p .end ∙ zero-add _, p .is)
+
+module _ {s u v o o₁ o₂ o₃ : List ℕ} {a b c : ℕ} (ks ss bs ls gs qs : List ℕ) (room : 166656 ≤ length o) where
+  printed-all : length ks ≤ 64 → length ks ≤ length ss → length ks ≤ length bs → length ls ≤ 2016 → length ls ≤ length gs → length ls ≤ length qs
+      → Printed (leb firstRoom (length o)) firstRoom s 0 a o o₁ → Printed (roomFor ks ss bs a o₁) (lineRoom * length ks) u a b o₁ o₂ → Printed (roomFor ls gs qs b o₂) (lineRoom * length ls) v b c o₂ o₃
+      → (c ≡ length (s ++ u ++ v)) × (o₃ ≡ s ++ u ++ v ++ drop c o)
+  printed-all hk hs hb hl hg hq x y z =
+      let p = x .done (le-leb 256 (length o) (omega arith)) in
+      let e₁ = p .0 .end in
+      let l₁ = p .1 in
+      let n₁ = put-long (p .0) (omega arith) in
+      let q = y .done (has-room ks ss bs o₁ a hs hb (omega arith)) in
+      let e₂ = q .0 .end in
+      let l₂ = q .1 in
+      let n₂ = put-long (q .0) (omega arith) in
+      let r = z .done (has-room ls gs qs o₂ b hg hq (omega arith)) in
+      let w : 0 ≤ length o = omega arith in
+      put-front (put-then (put-then (p .0) w (q .0)) w (r .0))
+
+-- ---- the pairs' columns, at the front of arrays of 2,016
+-- all of them are listed
+fits : (l t t′ : List ℕ) (n : ℕ) → n ≡ length l → t′ ≡ l ++ drop n t → length t ≡ 2016 → length t′ ≡ 2016 → n ≤ 2016
+fits l t t′ n c e h h′ =
+    let x : length t′ ≡ length l + length (drop n t) = ap length e ∙ length-append l (drop n t) in
+    omega (arith, length-drop n t)
+
+front : (l t t′ : List ℕ) (n : ℕ) → n ≡ length l → t′ ≡ l ++ drop n t → take n t′ ≡ l
+front l t t′ n c e = ap (take n) e ∙ take-at l (drop n t) n (sym c)
+
+-- ---- the whole
+-- the arrays' columns, and how many of the pairs are printed: all that there are
+abbrev pub PairsAre : model.Map → ℕ → List ℕ → List ℕ → List ℕ → List ℕ → Type 0
+PairsAre M n zeros lesser greater blocks =
+    Written M n
+    (record { was = zeros; is = lesser; wanted = λ M. lessers (allPairs M) } ∷ record { was = zeros; is = greater; wanted = λ M. greaters (allPairs M) }
+    ∷ record { was = zeros; is = blocks; wanted = λ M. pairBlocks (allPairs M) } ∷ [])
+
+module _ (M : model.Map) (n : ℕ) (zeros lesser greater blocks : List ℕ) (long : length zeros ≡ 2016) (same : length lesser ≡ 2016) (w : PairsAre M n zeros lesser greater blocks) where
+  all-few : n ≤ 2016
+  all-few = fits (lessers (allPairs M)) zeros lesser n (w .0) (w .1) long same
+
+  pub all-clamped : (edges : ℕ) → ((2016 < n) × (edges ≡ 2016)) ⊎ ((n ≤ 2016) × (edges ≡ n)) → edges ≡ n
+  all-clamped edges = ⊎-elim (λ x. let f = all-few in let g = x .0 in let e = x .1 in omega arith) (λ x. x .1)
+
+module _ (m : Map) (t : Tables) (M : model.Map) (h : Holds m t M) (points statuses blockers : List ℕ) (p : t .points ≡ points) (s : t .statuses ≡ statuses) (b : t .blockers ≡ blockers) where
+  module _ (n edges : ℕ) (zeros lesser greater blocks : List ℕ) (long : length zeros ≡ 2016) (same : length lesser ≡ 2016) (w : PairsAre M n zeros lesser greater blocks) (came : edges ≡ n) where
+    pub map-written : (counts : Counts) (o o₁ o₂ o₃ : List ℕ) (i j k : ℕ) → 166656 ≤ length o → counts ≡ countsOf M (m .points) edges
+        → Printed (leb firstRoom (length o)) firstRoom (countsLine (counts .cells) (counts .corners) (counts .points) (counts .edges) (counts .«open») (counts .blocks)) 0 i o o₁
+        → Printed (roomFor (take (m .points) points) (take (m .points) statuses) (take (m .points) blockers) i o₁) (lineRoom * length (take (m .points) points))
+        (pointRows (take (m .points) points) (take (m .points) statuses) (take (m .points) blockers)) i j o₁ o₂
+        → Printed (roomFor (take edges lesser) (take edges greater) (take edges blocks) j o₂) (lineRoom * length (take edges lesser))
+        (pairRows (take edges lesser) (take edges greater) (take edges blocks)) j k o₂ o₃
+        → Written M k (record { was = o; is = o₃; wanted = λ M. listed (done M) } ∷ [])
+    unfolding summary asked.points allPairs
+    map-written counts o o₁ o₂ o₃ i j k room c x y z =
+        let ps : Points = M .layer .points in
+        let l : List Pair = allPairs M in
+        let few : length ps ≤ 64 = h .layer .room in
+        let kk = keys-length ps in
+        let ks = statuses-length ps in
+        let kb = codes-count ps in
+        let ll = lessers-length l in
+        let ln = w .0 in
+        let lg = w .2 .0 in
+        let lb = w .2 .2 .0 in
+        let most = all-few M n zeros lesser greater blocks long same w in
+        let e₀ : edges ≡ length l = came ∙ w .0 ∙ ll in
+        let e₁ : take (m .points) points ≡ keys ps = ap (take (m .points)) (sym p) ∙ layer-keys (h .layer) in
+        let e₂ : take (m .points) statuses ≡ statusesOf ps = ap (take (m .points)) (sym s) ∙ layer-statuses (h .layer) in
+        let e₃ : take (m .points) blockers ≡ codes (blocksOf ps) = ap (take (m .points)) (sym b) ∙ layer-blocks (h .layer) in
+        let f₁ : take edges lesser ≡ lessers l = rw came (front (lessers l) zeros lesser n (w .0) (w .1)) in
+        let f₂ : take edges greater ≡ greaters l = rw came (front (greaters l) zeros greater n (w .2 .0) (w .2 .1)) in
+        let f₃ : take edges blocks ≡ pairBlocks l = rw came (front (pairBlocks l) zeros blocks n (w .2 .2 .0) (w .2 .2 .1)) in
+        let x′ = rw (c, h .layer .count, e₀) at x in
+        let y′ = rw (e₁, e₂, e₃, point-rows ps (blocks-named (h .good))) at y in
+        let z′ = rw (f₁, f₂, f₃, pair-rows l (pairs-told (h .good))) at z in
+        let r = printed-all (keys ps) (statusesOf ps) (codes (blocksOf ps)) (lessers l) (greaters l) (pairBlocks l) room (omega arith) (omega arith) (omega arith) (omega arith) (omega arith) (omega arith) x′ y′ z′ in
+        (r .0, r .1, tt)

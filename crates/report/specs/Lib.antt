@@ -1,0 +1,2 @@
+-- What the contracts of crate `report` cite.
+pub mod Reported
