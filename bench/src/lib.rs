@@ -1,67 +1,27 @@
-//! The proved functions, as the archive of `rt staticlib ieee_c` exports them.
+//! The proved functions, as the static library exports them (`bindings/build`).
 use oracle::question::{Entry, Floor, Question};
 use oracle::stand_ins::Point;
 
-/// Calls a function of an archive: `in` and `out` hand over a slice, as its pointer and its length.
-///
-/// SAFETY: every pointer is of a slice of the length given, and each call below hands over distinct slices, so no two overlap.
-macro_rules! lent {
-    (@ $f:path, [$($done:tt)*]) => { unsafe { $f($($done)*) } };
-    (@ $f:path, [$($done:tt)*] in $slice:expr, $($rest:tt)*) => {
-        lent!(@ $f, [$($done)* $slice.as_ptr(), $slice.len(),] $($rest)*)
-    };
-    (@ $f:path, [$($done:tt)*] out $slice:expr, $($rest:tt)*) => {
-        lent!(@ $f, [$($done)* $slice.as_mut_ptr(), $slice.len(),] $($rest)*)
-    };
-    (@ $f:path, [$($done:tt)*] $plain:expr, $($rest:tt)*) => {
-        lent!(@ $f, [$($done)* $plain,] $($rest)*)
-    };
-    ($f:path, $($args:tt)*) => { lent!(@ $f, [] $($args)*) };
-}
-
+pub mod changes;
+pub mod floats;
+pub mod floors;
 pub mod map;
 pub mod measure;
+pub mod segments;
+pub mod views;
 
-unsafe extern "C" {
-    pub safe fn runcedau_root(x: f64) -> f64;
-    pub safe fn runcedau_root_threshold(x: f64) -> f64;
-    pub safe fn runcedau_cut_to_i64(x: f64) -> i64;
-    pub safe fn runcedau_floor_to_i64(x: f64) -> i64;
-    pub safe fn runcedau_ceil_to_i64(x: f64) -> i64;
-    pub safe fn runcedau_column_of(x: f64) -> u64;
-    pub safe fn runcedau_column_up(x: f64) -> u64;
-    pub safe fn runcedau_abs(x: f64) -> f64;
-    pub safe fn runcedau_min(a: f64, b: f64) -> f64;
-    pub safe fn runcedau_max(a: f64, b: f64) -> f64;
+pub use runcedau::ffi::{
+    runcedau_abs, runcedau_ceil_to_i64, runcedau_column_of, runcedau_column_up,
+    runcedau_cut_to_i64, runcedau_distance, runcedau_floor_to_i64, runcedau_max, runcedau_min,
+    runcedau_root, runcedau_root_threshold,
+};
+use runcedau::ffi::{runcedau_floor_ask, runcedau_floor_change_cells, runcedau_near_cells};
+use runcedau::Segment;
+
+pub fn segment(ends: &[f64; 4]) -> Segment {
+    let [x0, y0, x1, y1] = *ends;
+    Segment::new(runcedau::Point::new(x0, y0), runcedau::Point::new(x1, y1))
 }
-
-/// The archive of `rt staticlib segment_c`; a slice passes as a pointer and then a length.
-mod segment {
-    unsafe extern "C" {
-        pub safe fn runcedau_distance_from_point(
-            x0: f64,
-            y0: f64,
-            x1: f64,
-            y1: f64,
-            x: f64,
-            y: f64,
-        ) -> f64;
-        pub fn runcedau_near_cells(
-            x0: f64,
-            y0: f64,
-            x1: f64,
-            y1: f64,
-            size: f64,
-            radius: f64,
-            cells: *const u64,
-            cells_len: usize,
-            near: *mut u8,
-            near_len: usize,
-        ) -> bool;
-    }
-}
-
-pub use segment::runcedau_distance_from_point;
 
 /// A 1 in `near` for each cell that the segment passes near; false, and nothing written, where there is no room.
 pub fn near_cells(
@@ -71,44 +31,7 @@ pub fn near_cells(
     cells: &[u64],
     near: &mut [u8],
 ) -> bool {
-    let [x0, y0, x1, y1] = *segment;
-    lent!(segment::runcedau_near_cells, x0, y0, x1, y1, size, radius, in cells, out near,)
-}
-
-/// The archive of `rt staticlib grid_c`.
-mod grid {
-    unsafe extern "C" {
-        pub fn runcedau_ask(
-            shape: u8,
-            size: f64,
-            x0: f64,
-            y0: f64,
-            x1: f64,
-            y1: f64,
-            length: f64,
-            count: usize,
-            cells: *const u64,
-            cells_len: usize,
-        ) -> u64;
-        pub fn runcedau_change_cells(
-            size: f64,
-            count: usize,
-            cells: *mut u64,
-            cells_len: usize,
-            batch: *const i64,
-            batch_len: usize,
-            confirmed: *mut u64,
-            confirmed_len: usize,
-            full: *mut u8,
-            full_len: usize,
-            corners: *mut u64,
-            corners_len: usize,
-            statuses: *mut u8,
-            statuses_len: usize,
-            counts: *mut u64,
-            counts_len: usize,
-        ) -> u8;
-    }
+    runcedau_near_cells(self::segment(segment), size, radius, cells, near)
 }
 
 /// The proved grid with the tables that it is lent: cells and corners as keys.
@@ -170,10 +93,16 @@ impl Floor for Proved {
     }
 
     fn change(&mut self, batch: &Vec<i64>) -> u8 {
-        let refusal = lent!(
-            grid::runcedau_change_cells, self.size, self.count, out self.cells, in batch,
-            out self.confirmed, out self.full, out self.corners, out self.statuses,
-            out self.counts,
+        let refusal = runcedau_floor_change_cells(
+            self.size,
+            self.count,
+            &mut self.cells,
+            batch,
+            &mut self.confirmed,
+            &mut self.full,
+            &mut self.corners,
+            &mut self.statuses,
+            &mut self.counts,
         );
         if refusal == 0 {
             self.count = self.counts[2] as usize;
@@ -189,9 +118,16 @@ impl Floor for Proved {
             Question::Circle(p, radius) => (2, p, none, radius),
             Question::Sweep(p, q, width) => (3, p, q, width),
         };
-        lent!(
-            grid::runcedau_ask, shape, self.size, p.x, p.y, q.x, q.y, length, self.count,
-            in self.cells,
+        runcedau_floor_ask(
+            shape,
+            self.size,
+            p.x,
+            p.y,
+            q.x,
+            q.y,
+            length,
+            self.count,
+            &self.cells,
         )
     }
 

@@ -1,4 +1,4 @@
-//! What the benchmarks of maps share: floors, the best of many rounds, and a line of the table.
+//! What the measurements share: floors, the best of many rounds, and a row of the table.
 use oracle::ordered::occupancy::{Cell, SparseGrid, Visibility};
 use oracle::question::Entry;
 use oracle::Random;
@@ -10,8 +10,12 @@ pub const RADIUS: f64 = 200.0;
 pub const ROUNDS: usize = 20;
 
 /// The best of the rounds, in nanoseconds for one of the `times` calls of a round.
-pub fn best(times: usize, mut round: impl FnMut()) -> f64 {
-    let measured = (0..ROUNDS).map(|_| {
+pub fn best(times: usize, round: impl FnMut()) -> f64 {
+    best_of(ROUNDS, times, round)
+}
+
+pub fn best_of(rounds: usize, times: usize, mut round: impl FnMut()) -> f64 {
+    let measured = (0..rounds).map(|_| {
         let start = Instant::now();
         round();
         start.elapsed().as_nanos() as f64 / times as f64
@@ -41,9 +45,26 @@ pub fn floor(random: &mut Random, points: usize) -> Vec<Entry> {
     }
 }
 
-pub fn row(name: &str, points: usize, proved: f64, published: f64, ordered: f64) {
-    println!(
-        "{name:22} {points:2} points   proved {proved:11.1} ns   Rust, hash maps {published:11.1} ns, ordered {ordered:11.1} ns   faster Rust/proved {:5.2}",
-        published.min(ordered) / proved
-    );
+/// A row of the table in one run: nanoseconds for one call, here and in the Rust: once, or with hash maps and with ordered maps.
+pub struct Row {
+    pub call: String,
+    pub on: String,
+    pub proved: f64,
+    pub rust: Vec<f64>,
+}
+
+pub fn row(call: &str, on: &str, proved: f64, rust: &[f64]) -> Row {
+    Row {
+        call: call.into(),
+        on: on.into(),
+        proved,
+        rust: rust.into(),
+    }
+}
+
+impl Row {
+    /// The faster Rust over the proved code: above 1 the proved code is faster.
+    pub fn ratio(&self) -> f64 {
+        self.rust.iter().copied().fold(f64::INFINITY, f64::min) / self.proved
+    }
 }

@@ -1,6 +1,6 @@
 //! The proved near test and distance against the Rust's own, on as many random segments as the argument says, each
 //! against a hundred cells. Prints the count and how many answers differ.
-use bench::{near_cells, runcedau_distance_from_point};
+use bench::{near_cells, runcedau_distance, segment};
 use oracle::occupancy::util::LineSegment;
 use oracle::occupancy::{Cell, Point};
 use oracle::{key, Random};
@@ -54,7 +54,8 @@ fn main() {
         for (cell, near) in cells.iter().zip(near) {
             let wanted = line.passes_near_cell(cell, size, radius);
             let p = cell.bottom_left_point(size);
-            let distance = runcedau_distance_from_point(x0, y0, x1, y1, p.x, p.y);
+            let distance =
+                runcedau_distance(segment(&[x0, y0, x1, y1]), runcedau::Point::new(p.x, p.y));
             yes += wanted as u64;
             if near != wanted as u8 || !same(distance, line.distance_from_point(p)) {
                 different += 1;

@@ -12,6 +12,7 @@ ghost use Rattle.model.specs.Refusal.{offMap};
 ghost use Rattle.answers.specs.Asking.{refuseMap, refusedWith};
 
 // 0 and how many there are; or the refusal's number, and 0.
+#[repr(C)]
 pub struct Count {
     pub refusal: u8,
     pub count: usize,

@@ -1,3 +1,4 @@
 -- What the contracts of crate `edges` cite.
 pub mod Columns
+pub mod Lists
 pub mod Walks

@@ -5,18 +5,15 @@ use answers::judge::refuse;
 use answers::judge::refused;
 use visibility::map::Map;
 ghost use mathlib.Core.Path.{_≡_};
-ghost use mathlib.Core.Bool.{false};
-ghost use mathlib.Core.List.{[], _∷_};
 ghost use Prim.Native.Nat.{_+_, _-_, _≤_, _<_};
 ghost use lib.ListN.{getD, length};
-ghost use Rattle.answers.specs.Asking.{HoldsSome, Listing, refuseMap};
-ghost use Rattle.model.specs.Answers.{allPairs, isOpen, openPairs};
+ghost use Rattle.model.specs.Answers.{isOpen};
 ghost use Rattle.model.specs.Layer.{Layer};
 ghost use Rattle.model.specs.Limits.{maxPoints, needPairs};
 ghost use Rattle.model.specs.Maps.{sift};
-ghost use Rattle.model.specs.Refusal.{short};
 ghost use Rattle.sight.specs.Paired.{pairPlaces};
 ghost use Rattle.edges.specs.Columns.{greaters, lessers, pairBlocks};
+ghost use Rattle.edges.specs.Lists.{AllPairs, OpenPairs};
 ghost use Rattle.edges.specs.Walks.{Front, Grows, Shown, ShownOpen, pairsOf, rowOf};
 
 // The pairs of the i-th point with those after it, behind the `count` pairs that are listed already.
@@ -80,11 +77,7 @@ pub fn all_pairs(
     greater: &mut [u64],
     blocks: &mut [u64],
 ) -> Count
-    ensures { λ r. ⌜ Listing
-        (refuseMap (short ((length (now (points .entry)), maxPoints) ∷ (length (now (pairs .entry)), pairPlaces) ∷ (length (now (lesser .entry)), needPairs) ∷ (length (now (greater .entry)), needPairs) ∷ (length (now (blocks .entry)), needPairs) ∷ [])) map false false)
-        (HoldsSome map (λ t. (t .points ≡ now (points .entry)) × (t .pairs ≡ now (pairs .entry))))
-        (record { was = now (lesser .entry); is = now (lesser .exit); wanted = λ M. lessers (allPairs M) } ∷ record { was = now (greater .entry); is = now (greater .exit); wanted = λ M. greaters (allPairs M) }
-        ∷ record { was = now (blocks .entry); is = now (blocks .exit); wanted = λ M. pairBlocks (allPairs M) } ∷ []) r ⌝ }
+    ensures { λ r. ⌜ AllPairs map (now (points .entry)) (now (pairs .entry)) (now (lesser .entry)) (now (greater .entry)) (now (blocks .entry)) (now (lesser .exit)) (now (greater .exit)) (now (blocks .exit)) r ⌝ }
 {
     let outputs = lacks(
         lesser.len(),
@@ -163,10 +156,7 @@ pub fn open_pairs(
     lesser: &mut [u64],
     greater: &mut [u64],
 ) -> Count
-    ensures { λ r. ⌜ Listing
-        (refuseMap (short ((length (now (points .entry)), maxPoints) ∷ (length (now (blockers .entry)), maxPoints) ∷ (length (now (pairs .entry)), pairPlaces) ∷ (length (now (lesser .entry)), needPairs) ∷ (length (now (greater .entry)), needPairs) ∷ [])) map false false)
-        (HoldsSome map (λ t. (t .points ≡ now (points .entry)) × (t .blockers ≡ now (blockers .entry)) × (t .pairs ≡ now (pairs .entry))))
-        (record { was = now (lesser .entry); is = now (lesser .exit); wanted = λ M. lessers (openPairs M) } ∷ record { was = now (greater .entry); is = now (greater .exit); wanted = λ M. greaters (openPairs M) } ∷ []) r ⌝ }
+    ensures { λ r. ⌜ OpenPairs map (now (points .entry)) (now (blockers .entry)) (now (pairs .entry)) (now (lesser .entry)) (now (greater .entry)) (now (lesser .exit)) (now (greater .exit)) r ⌝ }
 {
     let outputs = lacks(lesser.len(), 2016, lacks(greater.len(), 2016, false));
     let short = lacks(

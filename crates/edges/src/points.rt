@@ -7,20 +7,15 @@ use copy::bytes::copy_bytes;
 use copy::copy::copy;
 use visibility::map::Map;
 ghost use mathlib.Core.Path.{_≡_};
-ghost use mathlib.Core.Bool.{false};
-ghost use mathlib.Core.List.{[], _∷_, _++_};
+ghost use mathlib.Core.List.{_++_};
 ghost use Prim.Native.Nat.{_≤_};
 ghost use lib.ListN.{drop, length};
-ghost use Rattle.answers.specs.Asking.{HoldsSome, Listing, refuseMap};
-ghost use Rattle.marks.specs.Marked.{statusesOf};
-ghost use Rattle.model.specs.Answers.{free, freePoints};
-ghost use Rattle.model.specs.Answers as asked;
+ghost use Rattle.model.specs.Answers.{free};
 ghost use Rattle.model.specs.Layer.{Points};
-ghost use Rattle.model.specs.Limits.{maxPoints, needOthers};
 ghost use Rattle.model.specs.Maps.{keys, sift};
-ghost use Rattle.model.specs.Refusal.{short};
 ghost use Rattle.sight.specs.Blocked.{AllNamed, codes};
 ghost use Rattle.visibility.specs.Layers.{blocksOf};
+ghost use Rattle.edges.specs.Lists.{AllPoints, FreePoints};
 
 // All points, ascending, with their statuses and their blockers (0 for none, or a key).
 pub fn all_points(
@@ -32,11 +27,7 @@ pub fn all_points(
     bits: &mut [u8],
     blocks: &mut [u64],
 ) -> Count
-    ensures { λ r. ⌜ Listing
-        (refuseMap (short ((length (now (points .entry)), maxPoints) ∷ (length (now (statuses .entry)), maxPoints) ∷ (length (now (blockers .entry)), maxPoints) ∷ (length (now (out .entry)), needOthers) ∷ (length (now (bits .entry)), needOthers) ∷ (length (now (blocks .entry)), needOthers) ∷ [])) map false false)
-        (HoldsSome map (λ t. (t .points ≡ now (points .entry)) × (t .statuses ≡ now (statuses .entry)) × (t .blockers ≡ now (blockers .entry))))
-        (record { was = now (out .entry); is = now (out .exit); wanted = λ M. keys (asked.points M) } ∷ record { was = now (bits .entry); is = now (bits .exit); wanted = λ M. statusesOf (asked.points M) }
-        ∷ record { was = now (blocks .entry); is = now (blocks .exit); wanted = λ M. codes (blocksOf (asked.points M)) } ∷ []) r ⌝ }
+    ensures { λ r. ⌜ AllPoints map (now (points .entry)) (now (statuses .entry)) (now (blockers .entry)) (now (out .entry)) (now (bits .entry)) (now (blocks .entry)) (now (out .exit)) (now (bits .exit)) (now (blocks .exit)) r ⌝ }
 {
     let outputs = lacks(
         out.len(),
@@ -82,9 +73,7 @@ fn write_free(points: &[u64], blockers: &[u64], out: &mut [u64]) -> usize
 
 // The points that nothing blocks, ascending (`iter_points`).
 pub fn free_points(map: Map, points: &[u64], blockers: &[u64], out: &mut [u64]) -> Count
-    ensures { λ r. ⌜ Listing
-        (refuseMap (short ((length (now (points .entry)), maxPoints) ∷ (length (now (blockers .entry)), maxPoints) ∷ (length (now (out .entry)), needOthers) ∷ [])) map false false)
-        (HoldsSome map (λ t. (t .points ≡ now (points .entry)) × (t .blockers ≡ now (blockers .entry)))) (record { was = now (out .entry); is = now (out .exit); wanted = λ M. keys (freePoints M) } ∷ []) r ⌝ }
+    ensures { λ r. ⌜ FreePoints map (now (points .entry)) (now (blockers .entry)) (now (out .entry)) (now (out .exit)) r ⌝ }
 {
     let short = lacks(
         points.len(),

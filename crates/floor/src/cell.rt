@@ -3,6 +3,7 @@ ghost use mathlib.Core.Path.{_≡_};
 ghost use Rattle.model.specs.Cell.{key, xOf, yOf};
 ghost use Rattle.model.specs.Maps.{AscL, has};
 
+#[repr(C)]
 pub struct Cell {
     pub x: i64,
     pub y: i64,

@@ -36,7 +36,7 @@ fn question_of(shape: u8, x0: f64, y0: f64, x1: f64, y1: f64, extent: f64) -> Qu
 // The key of the cell found, 0 for none, or the refusal's number: no key is that small. What `ask` answers, with no `Place`
 // on the way: a match on it would be a branch.
 #[no_mangle]
-pub extern "C" fn runcedau_ask(
+pub extern "C" fn runcedau_floor_ask(
     shape: u8,
     size: f64,
     x0: f64,
@@ -62,7 +62,7 @@ pub extern "C" fn runcedau_ask(
 // A batch on a floor. `counts` gets how many changes were confirmed, how many corners altered, and how many cells are
 // occupied then; a refused call leaves it as it is.
 #[no_mangle]
-pub extern "C" fn runcedau_change_cells(
+pub extern "C" fn runcedau_floor_change_cells(
     size: f64,
     count: usize,
     cells: &mut [u64],

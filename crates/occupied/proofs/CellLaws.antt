@@ -8,7 +8,7 @@ use lib.IntN.{ℤ}
 use lib.ListN.{drop, length, take}
 use lib.Seq.{length-take-le}
 use Rattle.answers.proofs.PassedLaws.{long-enough, passed}
-use Rattle.answers.specs.Asking.{HoldsSome, Written, refuseMap}
+use Rattle.answers.specs.Asking.{Written, refuseMap}
 use Rattle.copy.specs.Copied.{Copied}
 use Rattle.corner.specs.Changes.{numbered}
 use Rattle.floor.proofs.FloorLaws.{holds-cells}
@@ -36,6 +36,7 @@ use Rattle.table.specs.Listed.{values}
 use Rattle.table.specs.Tables.{All}
 use Rattle.visibility.proofs.RebuildLaws.{Corners}
 use Rattle.visibility.specs.declared.map.Map.{Map}
+use Rattle.occupied.specs.Lists.{Lent}
 
 -- ---- a call that is not refused: the used cells are lent, and each output has room for them
 module _ (m : Map) (cells : List ℕ) (l : List (ℕ × ℕ)) (off bad : Bool) (e : refuseMap (short ((length cells, maxCells) ∷ l)) m off bad ≡ 0) where
@@ -52,27 +53,24 @@ module _ (m : Map) (cells : List ℕ) (l : List (ℕ × ℕ)) (off bad : Bool) (
 
 -- ---- a map that is held
 module _ (m : Map) (cells : List ℕ) where
-  abbrev pub Lent : model.Map → Type 0
-  Lent = HoldsSome m (λ t. t .cells ≡ cells)
-
-  held : (M : model.Map) → Lent M → floor.Holds cells (m .cells) (M .cells)
+  held : (M : model.Map) → Lent m cells M → floor.Holds cells (m .cells) (M .cells)
   held M h = subst (λ (c : List ℕ). floor.Holds c (m .cells) (M .cells)) (h .2) (h .1 .cells)
 
-  same-cells : (M : model.Map) → Lent M → take (m .cells) cells ≡ M .cells
+  same-cells : (M : model.Map) → Lent m cells M → take (m .cells) cells ≡ M .cells
   same-cells M h = holds-cells cells (m .cells) (M .cells) (held M h)
 
-  pub occupied-told : (x y : ℤ) (b : Bool) → (AscL 0 (take (m .cells) cells) → b ≡ has (key x y) (take (m .cells) cells)) → (M : model.Map) → Lent M → b ≡ isOccupied M x y
+  pub occupied-told : (x y : ℤ) (b : Bool) → (AscL 0 (take (m .cells) cells) → b ≡ has (key x y) (take (m .cells) cells)) → (M : model.Map) → Lent m cells M → b ≡ isOccupied M x y
   unfolding isOccupied
   occupied-told x y b f M h = subst (λ (u : List ℕ). AscL 0 u → b ≡ has (key x y) u) (same-cells M h) f (held M h .order)
 
   pub question-told : (q : Question) (o : Found) (p : Place) → placed p ≡ cellAt (found o .cell)
       → (AscL 0 (take (m .cells) cells) → All (Inside maxCoordinate) (take (m .cells) cells) → o ≡ foundAs (ask (m .size) (take (m .cells) cells) (asked q)))
-      → (M : model.Map) → Lent M → placed p ≡ cellAt (question M (asked q) .cell)
+      → (M : model.Map) → Lent m cells M → placed p ≡ cellAt (question M (asked q) .cell)
   unfolding question
   question-told q o p e f M h = rw (← h .1 .size) (search-placed (m .size) cells (m .cells) (asked q) o p e f (M .cells) (held M h))
 
   module _ (out out′ : List ℕ) (room : maxCells ≤ length out) where
-    pub cells-written : Copied (take (m .cells) cells) out out′ → (M : model.Map) → Lent M → Written M (m .cells) (record { was = out; is = out′; wanted = occupiedCells } ∷ [])
+    pub cells-written : Copied (take (m .cells) cells) out out′ → (M : model.Map) → Lent m cells M → Written M (m .cells) (record { was = out; is = out′; wanted = occupiedCells } ∷ [])
     unfolding occupiedCells
     cells-written f M h =
         let k = held M h in
@@ -80,7 +78,7 @@ module _ (m : Map) (cells : List ℕ) where
         (k .count, w ∙ ap (λ (n : ℕ). M .cells ++ drop n out) (sym (k .count)), tt)
 
     module _ (statuses statuses′ : List ℕ) (space : maxCells ≤ length statuses) (r : ℕ) where
-      pub corners-written : Corners (take (m .cells) cells) out out′ statuses statuses′ r → (M : model.Map) → Lent M
+      pub corners-written : Corners (take (m .cells) cells) out out′ statuses statuses′ r → (M : model.Map) → Lent m cells M
           → Written M r (record { was = out; is = out′; wanted = λ M. keys (numbered (corners M)) } ∷ record { was = statuses; is = statuses′; wanted = λ M. values (numbered (corners M)) } ∷ [])
       unfolding corners
       corners-written f M h =

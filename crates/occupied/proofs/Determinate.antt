@@ -1,29 +1,24 @@
 -- Any two outcomes that a call's contract permits are equal, of a map that is held; and where the call is refused, whatever the tables hold. Assumes nothing.
 use Prim.Native.Nat.{ℕ, zero, suc}
 use mathlib.Core.Path.{_≡_, refl, sym, _∙_}
-use mathlib.Core.Bool.{Bool, false}
+use mathlib.Core.Bool.{false}
 use mathlib.Core.List.{List, [], _∷_}
 use mathlib.Core.Logic.{_⊎_, ⊎-elim}
 use lib.IntN.{ℤ}
 use lib.ListN.{length}
 use Rattle.answers.proofs.ListingLaws.{Settled, list-one}
-use Rattle.answers.specs.Asking.{Listing, Output, refuseMap}
 use Rattle.answers.specs.declared.judge.Count.{Count}
-use Rattle.corner.specs.Changes.{numbered}
-use Rattle.model.specs.Answers.{corners, occupiedCells}
-use Rattle.model.specs.Limits.{maxCells, needCells}
+use Rattle.model.specs.Limits.{needCells}
 use Rattle.model.specs.Map as model
-use Rattle.model.specs.Maps.{keys}
-use Rattle.model.specs.Refusal.{badQuestion, short}
+use Rattle.model.specs.Refusal.{badQuestion}
 use Rattle.question.specs.Question.{asked}
 use Rattle.question.specs.declared.search.Question.{Question}
 use Rattle.questions.proofs.Determinate.{place-one}
 use Rattle.questions.specs.declared.ask.Answer.{Answer}
-use Rattle.table.specs.Listed.{values}
 use Rattle.visibility.specs.declared.map.Map.{Map}
 use Rattle.occupied.specs.Found.{Asking, Telling}
 use Rattle.occupied.specs.declared.cells.Told.{Told}
-use Rattle.occupied.proofs.CellLaws.{Lent}
+use Rattle.occupied.specs.Lists.{Asks, CornerCells, IsOccupied, Lent, OccupiedCells, due}
 
 same-told : (r q : Told) → r .refusal ≡ q .refusal → r .yes ≡ q .yes → r ≡ q
 same-told r q a b = rw (a, b) refl
@@ -51,36 +46,19 @@ module _ (n : ℕ) (Hold : model.Map → Type 0) where
 
 -- ---- the calls, on the cells that the map m lends
 module _ (m : Map) (cells : List ℕ) where
-  -- the refusal that is due, where l are the outputs' lengths and needs and b says whether a query number is bad
-  abbrev due : List (ℕ × ℕ) → Bool → ℕ
-  due l b = refuseMap (short ((length cells, maxCells) ∷ l)) m false b
+  pub occupied-one : (x y : ℤ) (r q : Told) → IsOccupied m cells x y r → IsOccupied m cells x y q → Settled (due m cells [] false) (Lent m cells) → r ≡ q
+  occupied-one = telling-one (due m cells [] false) (Lent m cells)
 
-  pub occupied-one : (x y : ℤ) (r q : Told) → let n = due [] false in Telling n (Lent m cells) x y r → Telling n (Lent m cells) x y q → Settled n (Lent m cells) → r ≡ q
-  occupied-one = telling-one (due [] false) (Lent m cells)
-
-  pub ask-one : (question : Question) (r q : Answer) → let n = due [] (badQuestion (asked question)) in
-      Asking n (Lent m cells) question r → Asking n (Lent m cells) question q → Settled n (Lent m cells) → r ≡ q
-  ask-one question = asking-one (due [] (badQuestion (asked question))) (Lent m cells) question
+  pub ask-one : (question : Question) (r q : Answer) → Asks m cells question r → Asks m cells question q → Settled (due m cells [] (badQuestion (asked question))) (Lent m cells) → r ≡ q
+  ask-one question = asking-one (due m cells [] (badQuestion (asked question))) (Lent m cells) question
 
   module _ (out out₁ out₂ : List ℕ) (r q : Count) where
-    abbrev cellsTo : List ℕ → Output
-    cellsTo o = record { was = out; is = o; wanted = occupiedCells }
-
-    pub cells-one : let n = due ((length out, needCells) ∷ []) false in
-        Listing n (Lent m cells) (cellsTo out₁ ∷ []) r → Listing n (Lent m cells) (cellsTo out₂ ∷ []) q → Settled n (Lent m cells) → (r ≡ q) × (out₁ ≡ out₂)
-    cells-one u v s = let w = list-one (due ((length out, needCells) ∷ []) false) (Lent m cells) (cellsTo out₁) (cellsTo out₂) [] [] r q (refl, refl, tt) u v s in (w .0, w .1 .0)
+    pub cells-one : OccupiedCells m cells out out₁ r → OccupiedCells m cells out out₂ q → Settled (due m cells ((length out, needCells) ∷ []) false) (Lent m cells) → (r ≡ q) × (out₁ ≡ out₂)
+    cells-one u v s = let w = list-one (due m cells ((length out, needCells) ∷ []) false) (Lent m cells) _ _ _ _ r q (refl, refl, tt) u v s in (w .0, w .1 .0)
 
     module _ (statuses statuses₁ statuses₂ : List ℕ) where
-      abbrev cornersTo : List ℕ → Output
-      cornersTo o = record { was = out; is = o; wanted = λ M. keys (numbered (corners M)) }
-
-      abbrev statusesTo : List ℕ → Output
-      statusesTo o = record { was = statuses; is = o; wanted = λ M. values (numbered (corners M)) }
-
-      pub corners-one : let n = due ((length out, needCells) ∷ (length statuses, needCells) ∷ []) false in
-          Listing n (Lent m cells) (cornersTo out₁ ∷ statusesTo statuses₁ ∷ []) r → Listing n (Lent m cells) (cornersTo out₂ ∷ statusesTo statuses₂ ∷ []) q
-          → Settled n (Lent m cells) → (r ≡ q) × (out₁ ≡ out₂) × (statuses₁ ≡ statuses₂)
+      pub corners-one : CornerCells m cells out statuses out₁ statuses₁ r → CornerCells m cells out statuses out₂ statuses₂ q
+          → Settled (due m cells ((length out, needCells) ∷ (length statuses, needCells) ∷ []) false) (Lent m cells) → (r ≡ q) × (out₁ ≡ out₂) × (statuses₁ ≡ statuses₂)
       corners-one u v s =
-          let n = due ((length out, needCells) ∷ (length statuses, needCells) ∷ []) false in
-          let w = list-one n (Lent m cells) (cornersTo out₁) (cornersTo out₂) (statusesTo statuses₁ ∷ []) (statusesTo statuses₂ ∷ []) r q (refl, refl, (refl, refl, tt)) u v s in
+          let w = list-one (due m cells ((length out, needCells) ∷ (length statuses, needCells) ∷ []) false) (Lent m cells) _ _ _ _ r q (refl, refl, (refl, refl, tt)) u v s in
           (w .0, w .1 .0, w .1 .1 .0)

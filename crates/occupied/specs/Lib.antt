@@ -1,2 +1,3 @@
 -- What the contracts of crate `occupied` cite.
 pub mod Found
+pub mod Lists

@@ -6,20 +6,10 @@ use answers::judge::refused;
 use copy::copy::copy;
 use floor::cell::Cell;
 use visibility::map::Map;
-ghost use mathlib.Core.Path.{_≡_};
-ghost use mathlib.Core.Bool.{false};
-ghost use mathlib.Core.List.{[], _∷_};
-ghost use lib.ListN.{length};
-ghost use Rattle.answers.specs.Asking.{HoldsSome, Listing, refuseMap};
-ghost use Rattle.corner.specs.Changes.{numbered};
-ghost use Rattle.model.specs.Answers.{corners, occupiedCells};
-ghost use Rattle.model.specs.Limits.{maxCells, needCells};
-ghost use Rattle.model.specs.Maps.{keys};
-ghost use Rattle.model.specs.Refusal.{short};
-ghost use Rattle.table.specs.Listed.{values};
-ghost use Rattle.occupied.specs.Found.{Telling};
+ghost use Rattle.occupied.specs.Lists.{CornerCells, IsOccupied, OccupiedCells};
 
 // 0 and the answer; or the refusal's number, and no.
+#[repr(C)]
 pub struct Told {
     pub refusal: u8,
     pub yes: bool,
@@ -27,7 +17,7 @@ pub struct Told {
 
 // `is_occupied`, for any pair of integers
 pub fn is_occupied(map: Map, cells: &[u64], cell: Cell) -> Told
-    ensures { λ r. ⌜ Telling (refuseMap (short ((length (now (cells .entry)), maxCells) ∷ [])) map false false) (HoldsSome map (λ t. t .cells ≡ now (cells .entry))) (cell .x) (cell .y) r ⌝ }
+    ensures { λ r. ⌜ IsOccupied map (now (cells .entry)) (cell .x) (cell .y) r ⌝ }
 {
     let number = refuse(lacks(cells.len(), 1024, false), map, false, false);
     if number != 0 {
@@ -45,8 +35,7 @@ pub fn is_occupied(map: Map, cells: &[u64], cell: Cell) -> Told
 
 // `occupied_cells`
 pub fn occupied_cells(map: Map, cells: &[u64], out: &mut [u64]) -> Count
-    ensures { λ r. ⌜ Listing (refuseMap (short ((length (now (cells .entry)), maxCells) ∷ (length (now (out .entry)), needCells) ∷ [])) map false false) (HoldsSome map (λ t. t .cells ≡ now (cells .entry)))
-        (record { was = now (out .entry); is = now (out .exit); wanted = occupiedCells } ∷ []) r ⌝ }
+    ensures { λ r. ⌜ OccupiedCells map (now (cells .entry)) (now (out .entry)) (now (out .exit)) r ⌝ }
 {
     let short = lacks(cells.len(), 1024, lacks(out.len(), 1024, false));
     let number = refuse(short, map, false, false);
@@ -63,8 +52,7 @@ pub fn occupied_cells(map: Map, cells: &[u64], out: &mut [u64]) -> Count
 
 // `corners`, with their statuses
 pub fn corner_cells(map: Map, cells: &[u64], out: &mut [u64], statuses: &mut [u8]) -> Count
-    ensures { λ r. ⌜ Listing (refuseMap (short ((length (now (cells .entry)), maxCells) ∷ (length (now (out .entry)), needCells) ∷ (length (now (statuses .entry)), needCells) ∷ [])) map false false) (HoldsSome map (λ t. t .cells ≡ now (cells .entry)))
-        (record { was = now (out .entry); is = now (out .exit); wanted = λ M. keys (numbered (corners M)) } ∷ record { was = now (statuses .entry); is = now (statuses .exit); wanted = λ M. values (numbered (corners M)) } ∷ []) r ⌝ }
+    ensures { λ r. ⌜ CornerCells map (now (cells .entry)) (now (out .entry)) (now (statuses .entry)) (now (out .exit)) (now (statuses .exit)) r ⌝ }
 {
     let short = lacks(
         cells.len(),

@@ -1,2 +1,3 @@
 -- The laws of crate `plane`.
 pub mod CornerLaws
+pub mod Determinate

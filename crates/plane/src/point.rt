@@ -3,6 +3,7 @@ ghost use mathlib.Core.Path.{_≡_};
 ghost use Rattle.model.specs.Plane.{plus, minus, times, over, dot, norm, turned};
 ghost use Rattle.plane.specs.Values.{pt, vec};
 
+#[repr(C)]
 pub struct Point {
     pub x: f64,
     pub y: f64,

@@ -6,12 +6,14 @@ ghost use Rattle.segment.specs.Crossing.{places};
 ghost use Rattle.plane.specs.Values.{pt};
 ghost use Rattle.segment.specs.Values.{seg};
 
+#[repr(C)]
 pub struct LineSegment {
     pub p0: Point,
     pub p1: Point,
 }
 
 // The Rust's `ArrayVec<f64, 2>`: how many, and two places, 0.0 where there is none.
+#[repr(C)]
 pub struct Crossings {
     pub count: u8,
     pub first: f64,

@@ -1,18 +1,11 @@
--- The numbers of a call as the model's records, and the near tests of many cells. Definitions only.
+-- The near tests of many cells. Definitions only.
 use Prim.Native.Nat.{ℕ}
 use mathlib.Core.Bool.{Bool, cond}
 use mathlib.Core.List.{List, _++_, map}
 use lib.Dec.{leb}
 use lib.ListN.{length, drop}
 use lib.Ieee.{Float}
-use Rattle.model.specs.Plane.{Pt}
 use Rattle.model.specs.Segment.{Seg, passesNear}
-
-abbrev pub point : Float → Float → Pt
-point a b = record { x = a; y = b }
-
-abbrev pub pair : Float → Float → Float → Float → Seg
-pair a b c d = record { p0 = point a b; p1 = point c d }
 
 -- 1 for yes
 abbrev pub number : Bool → ℕ

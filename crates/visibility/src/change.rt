@@ -27,6 +27,7 @@ ghost use Rattle.visibility.specs.Update.{Finishing, Updated};
 
 // 0, whether something was confirmed, how many changes were confirmed, how many corners altered, and the map afterwards; or the
 // refusal's number, and all else zero.
+#[repr(C)]
 pub struct Changed {
     pub refusal: u8,
     pub yes: bool,

@@ -2,6 +2,7 @@
 ghost use mathlib.Core.Path.{_≡_};
 ghost use Rattle.visibility.specs.Open.{noMap, refusedWith};
 
+#[repr(C)]
 pub struct Map {
     pub size: f64,
     pub radius: f64,
@@ -10,6 +11,7 @@ pub struct Map {
 }
 
 // 0 and a map; or the refusal's number, and a map that is all zero.
+#[repr(C)]
 pub struct Outcome {
     pub refusal: u8,
     pub map: Map,

@@ -6,12 +6,13 @@ use borrow.Author.Tests.{le-leb, lt-leb}
 use mathlib.Core.Bool.{Bool, _&&_}
 use lib.ListN.{length, getD, length-set}
 use Rattle.lists.proofs.Front.{mix}
-use Rattle.model.specs.Segment.{Seg, passesNear}
+use Rattle.model.specs.Segment.{passesNear}
 use Rattle.segment.specs.Many.{inSpans}
 use Rattle.segment.specs.Near.{nearBy}
+use Rattle.segment.specs.Values.{seg}
 use Rattle.segment.specs.declared.many.NearTest.{NearTest}
 use Rattle.segment.proofs.SpanLaws.{prepared-near}
-use Rattle.segment_c.specs.Cells.{number, pair}
+use Rattle.segment_c.specs.Cells.{number}
 use Rattle.segment_c.proofs.CellsLaws.{answers, answer-more, told-nothing, told-all}
 use Rattle.segment_c.proofs.runcedau_near_cells.Statement.{statement}
 use Rattle.segment_c.proofs.runcedau_near_cells.Tie as tie
@@ -21,36 +22,21 @@ abbrev says : NearTest → ℕ → Bool
 says t k = inSpans t k && nearBy (t .line) (t .reach) k
 
 abbrev Inv-loop : tie.InvT-loop
-Inv-loop x0 y0 x1 y1 size radius cells near₀ test i₀ near i =
+Inv-loop size radius cells near₀ test i₀ near i =
     (i ≤ length cells) × (length near ≡ length near₀) × (near ≡ mix (answers (says test) cells) near₀ i)
 
 abbrev μ-loop : tie.MeasureT-loop
-μ-loop x0 y0 x1 y1 size radius cells near₀ test i₀ near i = length cells - i
+μ-loop size radius cells near₀ test i₀ near i = length cells - i
 
 -- the cells fit the memory
-long : (c : tie.After-new2 Inv-loop μ-loop) → length (c .before .before .before .before .before .before .args .cells .now) * 8 < 2 ^ 63
-long c = c .before .before .before .before .before .before .good .1 .1 .1 .1 .1 .1 .0 .1
-
--- each answer is the model's
-near : (c : tie.After-new2 Inv-loop μ-loop)
-    → let a = c .before .before .before .before .before .before .args in
-    (i : ℕ) → i < length (a .cells .now) → says (c .new2 .result) (getD (a .cells .now) i 0) ≡ passesNear (pair (a .x0) (a .y0) (a .x1) (a .y1)) (getD (a .cells .now) i 0) (a .size) (a .radius)
-near c i h =
-    let a = c .before .before .before .before .before .before .args in
-    let b = c .before .before .between in
-    let k = getD (a .cells .now) i 0 in
-    let f : k < 2 ^ 64 = c .before .before .before .before .before .shared-slice-known .given i .fits in
-    prepared-near (b .result) (c .before .new .result) (c .new2 .result) k (a .size) (a .radius) f (c .new2 .ensures) (c .before .new .ensures)
-    ∙ ap (λ (s : Seg). passesNear s k (a .size) (a .radius)) (b .ensures)
+long : (c : tie.After-new2 Inv-loop μ-loop) → length (c .before .before .before .before .before .args .cells .now) * 8 < 2 ^ 63
+long c = c .before .before .before .before .before .good .1 .1 .1 .0 .1
 
 returns : tie.Need-returns Inv-loop μ-loop
 returns c =
     let a = c .before .before .before .args in
     let short : length (a .near .now) < length (a .cells .now) = c .if1 .taken in
     (sym (lt-leb (length (a .cells .now)) (length (a .near .now)) short), told-nothing _ (a .size) (a .radius) (a .cells .now) (a .near .now) short)
-
-between-requires : tie.Need-between-requires Inv-loop μ-loop
-between-requires c κs = tt
 
 new-requires : tie.Need-new-requires Inv-loop μ-loop
 new-requires c κs = tt
@@ -85,7 +71,7 @@ loop-less c = omega arith
 loop-again : tie.Need-loop-again Inv-loop μ-loop
 loop-again c =
     let l = c .before .before .before .before in
-    let a = l .before .before .before .before .before .before .before .args in
+    let a = l .before .before .before .before .before .before .args in
     let f = says (l .before .new2 .result) in
     let e = c .byte .ensures ∙ ap number (c .before .passes .ensures) in
     let more = answer-more f (a .cells .now) (a .near .now) (l .loop .i) (omega arith) (omega arith) in
@@ -94,15 +80,19 @@ loop-again c =
 same-length : tie.Need-same-length Inv-loop μ-loop
 same-length c = c .before .loop .inv .1
 
+-- each answer is the model's, since the test was prepared for this segment
 returns-2 : tie.Need-returns-2 Inv-loop μ-loop
 returns-2 c =
     let n = c .before .before in
-    let a = n .before .before .before .before .before .before .args in
+    let k = n .before .before .before .before in
+    let a = k .before .args in
     let l : length (a .cells .now) ≤ length (a .near .now) = omega arith in
     let i : c .before .loop .i ≡ length (a .cells .now) = omega arith in
-    let f = says (n .new2 .result) in (
+    let f = says (n .new2 .result) in
+    let same : (j : ℕ) → j < length (a .cells .now) → f (getD (a .cells .now) j 0) ≡ passesNear (seg (a .s)) (getD (a .cells .now) j 0) (a .size) (a .radius) =
+    λ j h. prepared-near (a .s) (n .before .new .result) (n .new2 .result) (getD (a .cells .now) j 0) (a .size) (a .radius) (k .shared-slice-known .given j .fits) (n .new2 .ensures) (n .before .new .ensures) in (
       sym (le-leb (length (a .cells .now)) (length (a .near .now)) l),
-      c .before .loop .inv .2 ∙ ap (mix (answers f (a .cells .now)) (a .near .now)) i ∙ told-all _ (a .size) (a .radius) (a .cells .now) (a .near .now) f (near n) l,
+      c .before .loop .inv .2 ∙ ap (mix (answers f (a .cells .now)) (a .near .now)) i ∙ told-all _ (a .size) (a .radius) (a .cells .now) (a .near .now) f same l,
     )
 
 pub runcedau-near-cells-spec : {M : Type 1} → statement M
@@ -112,7 +102,6 @@ runcedau-near-cells-spec =
     Inv-loop
     μ-loop
     returns
-    between-requires
     new-requires
     new-requires-2
     loop-holds

@@ -8,7 +8,8 @@ use Rattle.answers.specs.Asking.{refuseMap}
 use Rattle.model.specs.Limits.{maxCells}
 use Rattle.model.specs.Refusal.{badQuestion, short}
 use Rattle.question.specs.Question.{asked}
-use Rattle.occupied.proofs.CellLaws.{Lent, question-told, used}
+use Rattle.occupied.specs.Lists.{Lent}
+use Rattle.occupied.proofs.CellLaws.{question-told, used}
 use Rattle.occupied.proofs.FoundLaws.{asking-done, asking-refused}
 use Rattle.occupied.proofs.ask.ask.Statement.{statement}
 use Rattle.occupied.proofs.ask.ask.Tie as tie

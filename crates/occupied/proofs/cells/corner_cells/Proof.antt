@@ -9,7 +9,8 @@ use Rattle.answers.proofs.PassedLaws.{lacks-short, long-enough, none-short}
 use Rattle.answers.specs.Asking.{refuseMap}
 use Rattle.model.specs.Limits.{maxCells, needCells}
 use Rattle.model.specs.Refusal.{short}
-use Rattle.occupied.proofs.CellLaws.{Lent, corners-written, rest-long, used}
+use Rattle.occupied.specs.Lists.{Lent}
+use Rattle.occupied.proofs.CellLaws.{corners-written, rest-long, used}
 use Rattle.occupied.proofs.cells.corner_cells.Statement.{statement}
 use Rattle.occupied.proofs.cells.corner_cells.Tie as tie
 

@@ -7,7 +7,8 @@ use Rattle.answers.proofs.PassedLaws.{lacks-short, none-short}
 use Rattle.answers.specs.Asking.{refuseMap}
 use Rattle.model.specs.Limits.{maxCells}
 use Rattle.model.specs.Refusal.{short}
-use Rattle.occupied.proofs.CellLaws.{Lent, occupied-told, used}
+use Rattle.occupied.specs.Lists.{Lent}
+use Rattle.occupied.proofs.CellLaws.{occupied-told, used}
 use Rattle.occupied.proofs.FoundLaws.{telling-done, telling-refused}
 use Rattle.occupied.proofs.cells.is_occupied.Statement.{statement}
 use Rattle.occupied.proofs.cells.is_occupied.Tie as tie

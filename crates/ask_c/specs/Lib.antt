@@ -1,0 +1,2 @@
+-- What the contracts of crate `ask_c` cite.
+pub mod Told

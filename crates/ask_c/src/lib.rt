@@ -1,0 +1,69 @@
+// The question of four shapes under a C name.
+use floor::cell::Cell;
+use occupied::ask::ask;
+use plane::point::Point;
+use question::search::Question;
+use questions::ask::Answer;
+use questions::ask::Place;
+use visibility::map::Map;
+ghost use mathlib.Core.Path.{_≡_};
+ghost use Rattle.ask_c.specs.Told.{foundOf, questionOf};
+ghost use Rattle.occupied.specs.Lists.{Asks};
+ghost use Rattle.questions.specs.declared.ask.Answer.{Answer};
+
+// The refusal's number, whether a cell was found, and the cell; all else is zero where there is none.
+#[repr(C)]
+pub struct Found {
+    pub refusal: u8,
+    pub some: bool,
+    pub cell: Cell,
+}
+
+// 1 is a square, 2 a circle, 3 a sweep, any other number a point.
+fn question_of(shape: u8, p: Point, q: Point, extent: f64) -> Question
+    ensures { λ r. ⌜ r ≡ questionOf shape p q extent ⌝ }
+{
+    if shape == 1 {
+        return Question::Square(p, extent);
+    }
+    if shape == 2 {
+        return Question::Circle(p, extent);
+    }
+    if shape == 3 {
+        return Question::Sweep(p, q, extent);
+    }
+    Question::Point(p)
+}
+
+fn told(answer: Answer) -> Found
+    ensures { λ r. ⌜ r ≡ foundOf answer ⌝ }
+{
+    let place = answer.cell;
+    match place {
+        Place::Nothing => Found {
+            refusal: answer.refusal,
+            some: false,
+            cell: Cell { x: 0, y: 0 },
+        },
+        Place::At(cell) => Found {
+            refusal: answer.refusal,
+            some: true,
+            cell,
+        },
+    }
+}
+
+// The first occupied cell that qualifies. `q` counts for a sweep only, `extent` not for a point.
+#[no_mangle]
+pub extern "C" fn runcedau_ask(
+    map: Map,
+    cells: &[u64],
+    shape: u8,
+    p: Point,
+    q: Point,
+    extent: f64,
+) -> Found
+    ensures { λ r. ⌜ ((a : Answer) × Asks map (now (cells .entry)) (questionOf shape p q extent) a × (r ≡ foundOf a)) ⌝ }
+{
+    told(ask(map, cells, question_of(shape, p, q, extent)))
+}

@@ -1,0 +1,2 @@
+-- The laws of crate `cells_c`.
+pub mod PlaceLaws

@@ -1,0 +1,2 @@
+-- What the contracts of crate `cells_c` cite.
+pub mod Places

@@ -1,2 +1,0 @@
--- What the contracts of crate `views_c` cite.
-pub mod Told

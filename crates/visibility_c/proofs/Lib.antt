@@ -1,2 +1,0 @@
--- The laws of crate `visibility_c`.
-pub mod CountLaws

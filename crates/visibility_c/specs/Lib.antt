@@ -1,2 +1,0 @@
--- What the contracts of crate `visibility_c` cite.
-pub mod Mapped
