@@ -9,12 +9,20 @@ fn median(mut numbers: Vec<f64>) -> f64 {
     numbers[numbers.len() / 2]
 }
 
-/// Three digits are enough.
+/// Two digits are enough; thousands are parted.
 fn nanoseconds(x: f64) -> String {
-    match x {
-        x if x < 100.0 => format!("{x:.1}"),
-        x if x < 10_000.0 => format!("{x:.0}"),
-        _ => format!("{:.0},000", x / 1000.0),
+    if x < 100.0 {
+        return format!("{x:.1}");
+    }
+    let whole = if x < 10_000.0 {
+        x.round()
+    } else {
+        1000.0 * (x / 1000.0).round()
+    } as u64;
+    match (whole / 1_000_000, whole / 1000 % 1000, whole % 1000) {
+        (0, 0, n) => n.to_string(),
+        (0, m, n) => format!("{m},{n:03}"),
+        (l, m, n) => format!("{l},{m:03},{n:03}"),
     }
 }
 
