@@ -5,6 +5,7 @@ use oracle::stand_ins::Point;
 pub mod changes;
 pub mod floats;
 pub mod floors;
+pub mod lists;
 pub mod map;
 pub mod measure;
 pub mod segments;

@@ -2,7 +2,7 @@
 //! run as often as the argument says (5 times without one), so that the ratio's median and its spread are over runs; within a run each figure is the best of many rounds, and
 //! every answer is compared first.
 use bench::measure::Row;
-use bench::{changes, floats, floors, segments, views};
+use bench::{changes, floats, floors, lists, segments, views};
 
 fn median(mut numbers: Vec<f64>) -> f64 {
     numbers.sort_by(f64::total_cmp);
@@ -51,6 +51,7 @@ fn run() -> Vec<Row> {
         floors::rows,
         changes::rows,
         views::rows,
+        lists::rows,
     ];
     parts.into_iter().flat_map(|rows| rows()).collect()
 }

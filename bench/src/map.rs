@@ -20,6 +20,25 @@ pub struct ProvedMap {
     changed: usize,
 }
 
+/// Places for a list.
+pub struct Lists {
+    pub keys: [u64; 1_024],
+    pub statuses: [u8; 1_024],
+    pub lesser: [u64; 2_016],
+    pub greater: [u64; 2_016],
+}
+
+impl Default for Lists {
+    fn default() -> Self {
+        Lists {
+            keys: [0; 1_024],
+            statuses: [0; 1_024],
+            lesser: [0; 2_016],
+            greater: [0; 2_016],
+        }
+    }
+}
+
 fn cell(cell: &Cell) -> runcedau::Cell {
     runcedau::Cell::new(cell.x, cell.y)
 }
@@ -39,21 +58,32 @@ impl ProvedMap {
             altered: vec![0; 2_304],
             changed: 0,
         };
-        let opened = ffi::runcedau_open(
+        map.map = Map {
             size,
             radius,
-            &mut map.cells,
-            &mut map.points,
-            &mut map.statuses,
-            &mut map.blockers,
-            &mut map.pairs,
-        );
-        map.map = opened.map;
-        if opened.refusal == 0 {
-            Ok(map)
-        } else {
-            Err(opened.refusal)
+            ..Map::default()
+        };
+        match map.reopen() {
+            0 => Ok(map),
+            refusal => Err(refusal),
         }
+    }
+
+    /// Opens the map again, empty, with its cell size and its radius.
+    pub fn reopen(&mut self) -> u8 {
+        let opened = ffi::runcedau_open(
+            self.map.size,
+            self.map.radius,
+            &mut self.cells,
+            &mut self.points,
+            &mut self.statuses,
+            &mut self.blockers,
+            &mut self.pairs,
+        );
+        if opened.refusal == 0 {
+            self.map = opened.map;
+        }
+        opened.refusal
     }
 
     /// Three numbers an entry.
@@ -119,6 +149,36 @@ impl ProvedMap {
             out,
         );
         &out[..listed.count]
+    }
+
+    pub fn is_occupied(&self, of_cell: &Cell) -> bool {
+        ffi::runcedau_is_occupied(self.map, &self.cells, cell(of_cell)).yes
+    }
+
+    /// Each list stands at the front of its places; returned is how many there are.
+    pub fn occupied_cells(&self, lists: &mut Lists) -> usize {
+        ffi::runcedau_occupied_cells(self.map, &self.cells, &mut lists.keys).count
+    }
+
+    pub fn corner_cells(&self, lists: &mut Lists) -> usize {
+        ffi::runcedau_corner_cells(self.map, &self.cells, &mut lists.keys, &mut lists.statuses)
+            .count
+    }
+
+    pub fn free_points(&self, lists: &mut Lists) -> usize {
+        ffi::runcedau_free_points(self.map, &self.points, &self.blockers, &mut lists.keys).count
+    }
+
+    pub fn open_pairs(&self, lists: &mut Lists) -> usize {
+        ffi::runcedau_open_pairs(
+            self.map,
+            &self.points,
+            &self.blockers,
+            &self.pairs,
+            &mut lists.lesser,
+            &mut lists.greater,
+        )
+        .count
     }
 
     pub fn cells(&self) -> &[u64] {
