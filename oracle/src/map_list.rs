@@ -79,8 +79,8 @@ impl MapList {
         }
     }
 
-    /// Writes the two files, where there is enough of everything and they are short enough.
-    pub fn finish(&self, needed: &[(&str, usize)], most: [usize; 2]) {
+    /// The list, where there is enough of everything and it is short enough.
+    pub fn finish(self, needed: &[(&str, usize)], most: [usize; 2]) -> Vectors {
         for (name, count) in &self.counts {
             eprintln!("{count:6} {name}");
         }
@@ -91,7 +91,7 @@ impl MapList {
             let count = self.counts.get(*name).copied().unwrap_or(0);
             assert!(count >= *least, "{count} {name}, and {least} are needed");
         }
-        self.vectors.write();
+        self.vectors
     }
 }
 

@@ -143,6 +143,12 @@ impl Vectors {
         }
     }
 
+    /// Another list behind this one.
+    pub fn append(&mut self, more: &Vectors) {
+        self.asked += &more.asked;
+        self.answered += &more.answered;
+    }
+
     /// How many bytes the program reads, and how many it writes.
     pub fn bytes(&self) -> [usize; 2] {
         [self.asked.len(), self.answered.len()]

@@ -18,37 +18,38 @@ use visibility::map::Map;
 use visibility::map::Outcome;
 use visibility::open::open;
 use visibility::radius::change_radius;
-ghost use mathlib.Core.Path.{_≡_};
-ghost use mathlib.Core.Bool.{false, true};
-ghost use Rattle.visibility.specs.Open.{noMap};
 
-// The map, the numbers of the batch so far, and whether there was a line.
-pub struct State {
+// The map, the one whose tables are told (that before a refused opening, else the same), the numbers of the batch so far, and
+// whether there was a line.
+pub(crate) struct State {
     pub map: Map,
+    pub told: Map,
     pub used: usize,
     pub more: bool,
 }
 
-// Before the first line: no map, as after a refused opening.
-pub fn start() -> State
-    ensures { λ r. ⌜ r ≡ record { map = noMap; used = 0; more = true } ⌝ }
-{
+fn with(map: Map, used: usize) -> State {
     State {
-        map: Map {
-            size: 0.0,
-            radius: 0.0,
-            cells: 0,
-            points: 0,
-        },
-        used: 0,
+        map,
+        told: map,
+        used,
         more: true,
     }
 }
 
+// Before the first line: no map, as after a refused opening.
+pub(crate) fn start() -> State {
+    let none = Map {
+        size: 0.0,
+        radius: 0.0,
+        cells: 0,
+        points: 0,
+    };
+    with(none, 0)
+}
+
 // The last state.
-pub fn stopped(state: State) -> State
-    ensures { λ r. ⌜ r ≡ record { map = state .map; used = state .used; more = false } ⌝ }
-{
+pub(crate) fn stopped(state: State) -> State {
     let mut last = state;
     last.more = false;
     last
@@ -76,8 +77,9 @@ fn answer_batch(line: &[u8], r: Changed) {
 }
 
 // A new map, or what a refused opening gives, and an empty batch.
-fn begin(
+pub(crate) fn begin(
     line: &[u8],
+    state: State,
     cells: &mut [u64; 1024],
     points: &mut [u64; 64],
     statuses: &mut [u8; 64],
@@ -88,24 +90,24 @@ fn begin(
     let radius = float_at(line, 19);
     let o = open(size, radius, cells, points, statuses, blockers, pairs);
     answer_plain(line, o);
+    let before = state.map;
     let after = o.map;
     State {
         map: after,
+        told: if o.refusal == 0 { after } else { before },
         used: 0,
         more: true,
     }
 }
 
 // One more entry of the batch.
-fn add(line: &[u8], map: Map, batch: &mut [i64; 900], used: usize, full: i64) -> State {
+pub(crate) fn add(line: &[u8], state: State, batch: &mut [i64; 900], full: i64) -> State {
     answer(line, &[]);
     let x = integer_at(line, 2);
     let y = integer_at(line, 19);
-    State {
-        map,
-        used: enter(batch, used, x, y, full),
-        more: true,
-    }
+    let mut next = state;
+    next.used = enter(batch, state.used, x, y, full);
+    next
 }
 
 // Returns the map afterwards.
@@ -144,17 +146,18 @@ fn change(
 }
 
 // The batch so far, given to the map.
-fn commit(
+pub(crate) fn commit(
     line: &[u8],
-    map: Map,
+    state: State,
     cells: &mut [u64; 1024],
     points: &mut [u64; 64],
     statuses: &mut [u8; 64],
     blockers: &mut [u64; 64],
     pairs: &mut [u64; 4096],
     batch: &[i64],
-    used: usize,
 ) -> State {
+    let map = state.map;
+    let used = state.used;
     let mut after = map;
     if used <= batch.len() {
         after = change(
@@ -168,65 +171,23 @@ fn commit(
             &batch[..used],
         );
     }
-    State {
-        map: after,
-        used: 0,
-        more: true,
-    }
+    with(after, 0)
 }
 
 // Another radius, or the same again. Entries stay pending.
-fn set_radius(
+pub(crate) fn set_radius(
     line: &[u8],
-    map: Map,
+    state: State,
     cells: &[u64; 1024],
     points: &mut [u64; 64],
     statuses: &mut [u8; 64],
     blockers: &mut [u64; 64],
     pairs: &mut [u64; 4096],
-    used: usize,
 ) -> State {
+    let map = state.map;
     let radius = float_at(line, 2);
     let o = change_radius(map, cells, points, statuses, blockers, pairs, radius);
     answer_plain(line, o);
     let given = o.map;
-    State {
-        map: if o.refusal == 0 { given } else { map },
-        used,
-        more: true,
-    }
-}
-
-// What the line asks for. A line of any other letter alters nothing.
-pub fn call(
-    letter: u8,
-    line: &[u8],
-    state: State,
-    cells: &mut [u64; 1024],
-    points: &mut [u64; 64],
-    statuses: &mut [u8; 64],
-    blockers: &mut [u64; 64],
-    pairs: &mut [u64; 4096],
-    batch: &mut [i64; 900],
-) -> State {
-    let map = state.map;
-    let used = state.used;
-    match letter {
-        b'o' => begin(line, cells, points, statuses, blockers, pairs),
-        b'+' => add(line, map, batch, used, 1),
-        b'-' => add(line, map, batch, used, 0),
-        b'b' => commit(
-            line,
-            map,
-            cells,
-            points,
-            statuses,
-            blockers,
-            pairs,
-            batch,
-            used,
-        ),
-        b'r' => set_radius(line, map, cells, points, statuses, blockers, pairs, used),
-        _ => state,
-    }
+    with(if o.refusal == 0 { given } else { map }, state.used)
 }

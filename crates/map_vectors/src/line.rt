@@ -16,7 +16,7 @@ fn operands(letter: u8) -> usize
 }
 
 // Reads the next line and returns its length, or 0 where the input ends before, or the longest would find no room.
-pub fn next_line(line: &mut [u8]) -> usize
+pub(crate) fn next_line(line: &mut [u8]) -> usize
     ensures { λ r. ⌜ r ≤ 87 ⌝ }
 {
     if line.len() < 87 {

@@ -1,7 +1,13 @@
-// Cells, points and pairs on lines of their own.
+// Cells, points and pairs on lines of their own, and how many there are.
+use answers::judge::Count;
 use libc::STDOUT_FILENO;
+use vectors::answer;
 use vectors::change::write_cell;
 use vectors::write_number;
+
+pub(crate) fn answer_count(line: &[u8], r: Count) {
+    answer(line, &[r.refusal as u64, r.count as u64]);
+}
 
 // Below 2 no blocker stands in a table.
 fn write_blocker(key: u64) {
@@ -21,7 +27,7 @@ fn write_point(key: u64, status: u8, blocker: u64) {
 }
 
 // A pair, and what is to stand behind its blocker.
-pub fn write_pair(lesser: u64, greater: u64, blocker: u64, end: &[u8]) {
+pub(crate) fn write_pair(lesser: u64, greater: u64, blocker: u64, end: &[u8]) {
     io::write_all(STDOUT_FILENO, b"e ");
     write_cell(lesser, b" ", b" ");
     write_cell(greater, b" ", b" ");
@@ -30,7 +36,12 @@ pub fn write_pair(lesser: u64, greater: u64, blocker: u64, end: &[u8]) {
 }
 
 // Writes the first `count` points.
-pub fn write_points(count: usize, points: &[u64; 64], statuses: &[u8; 64], blockers: &[u64; 64]) {
+pub(crate) fn write_points(
+    count: usize,
+    points: &[u64; 64],
+    statuses: &[u8; 64],
+    blockers: &[u64; 64],
+) {
     if 64 < count {
         return;
     }
@@ -47,7 +58,7 @@ fn write_line(key: u64) {
 }
 
 // Writes the first `count` cells.
-pub fn write_cells(cells: &[u64], count: usize) {
+pub(crate) fn write_cells(cells: &[u64], count: usize) {
     if cells.len() < count {
         return;
     }

@@ -8,18 +8,18 @@ use Rattle.map_vectors.proofs.call.commit.Tie as tie
 
 slice-aggregate-change : tie.Need-slice-aggregate-change
 slice-aggregate-change c =
-    let a = c .before .before .before .before .before .before .before .before .args in
-    sym (length-take-le (a .used) (a .batch .now) (omega arith))
+    let a = c .before .before .before .before .before .before .before .before .before .args in
+    sym (length-take-le (a .state .used) (a .batch .now) (omega arith))
 
 change-requires : tie.Need-change-requires
 change-requires c κs = search needs
 
+with-requires : tie.Need-with-requires
+with-requires c κs = search needs
+
 returns : tie.Need-returns
 returns c = search needs
 
-returns-2 : tie.Need-returns-2
-returns-2 c = search needs
-
 pub commit-spec : {M : Type 1} → statement M
 commit-spec =
-    tie.close (tie.spec slice-aggregate-change change-requires returns returns-2)
+    tie.close (tie.spec slice-aggregate-change change-requires with-requires returns)

@@ -1,8 +1,8 @@
--- `visibility_vectors::write_pairs` is safe and ends: the points that are left fall. Assumes nothing.
+-- `map_vectors::tables::write_pairs` is safe and ends: the points that are left fall. Assumes nothing.
 use Prim.Native.Nat.{_-_}
 use native.Mathlib.Omega.{arith}
-use Rattle.visibility_vectors.proofs.write_pairs.Statement.{statement}
-use Rattle.visibility_vectors.proofs.write_pairs.Tie as tie
+use Rattle.map_vectors.proofs.tables.write_pairs.Statement.{statement}
+use Rattle.map_vectors.proofs.tables.write_pairs.Tie as tie
 
 abbrev Inv-loop : tie.InvT-loop
 Inv-loop count points pairs i₀ i = Unit {0}

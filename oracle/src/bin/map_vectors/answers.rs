@@ -1,7 +1,4 @@
-//! Writes the vectors that the program `answers_vectors` replays: `stdin` (runs on maps, with questions and lists in between) and
-//! `stdout` (the same with the answers of the Rust's own functions, ordered maps, behind document 01's refusals), into the folder
-//! that is its one argument. The list is the same on every run. Standard error tells how many there are of each kind; where a
-//! kind is missing nothing is written.
+//! Runs on maps, with questions and lists in between.
 //!
 //! The calls that alter the map are those of `oracle::map_list`. The others:
 //!
@@ -18,7 +15,9 @@ use oracle::layouts::{block, checkerboard, entries, islands, moved, racks, scatt
 use oracle::map_list::{MapList, Step};
 use oracle::occupancy::{secondary_cardinal_directions, Cell, Grid, Point};
 use oracle::question::Question;
-use oracle::vectors::{pair_line, place, place_numbers, point_line, question_line, status_line};
+use oracle::vectors::{
+    pair_line, place, place_numbers, point_line, question_line, status_line, Vectors,
+};
 
 const QUESTIONS: [char; 7] = ['i', 'p', 's', 'c', 'w', 'v', 'n'];
 const LISTS: [char; 6] = ['O', 'C', 'P', 'F', 'E', 'U'];
@@ -640,7 +639,7 @@ fn needed_of(letters: &[char], each: &[(&str, usize)]) -> Vec<(String, usize)> {
         .collect()
 }
 
-fn main() {
+pub fn vectors() -> Vectors {
     let mut list = MapList::new(77, sometimes);
     histories(&mut list);
     empty_maps(&mut list);
@@ -660,5 +659,5 @@ fn main() {
         .iter()
         .map(|(name, least)| (&name[..], *least))
         .collect();
-    list.finish(&needed, [400_000, 800_000]);
+    list.finish(&needed, [400_000, 800_000])
 }

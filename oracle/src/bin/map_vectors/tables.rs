@@ -1,10 +1,8 @@
-//! Writes the vectors that the program `visibility_vectors` replays: `stdin` (maps, batches and changes of the radius) and
-//! `stdout` (the same with the answers of the Rust's own `Visibility`, ordered maps, behind document 01's refusals), into
-//! the folder that is its one argument. The list is the same on every run. Standard error tells how many there are of each
-//! kind; where a kind is missing nothing is written.
+//! Runs of maps, batches and changes of the radius, with all that the tables hold after each call.
 //!
-//! The lines are those of `oracle::map_list`. In `stdout` every call but an entry is followed, as in a listing, by the map's points
-//! and pairs: `p` x y status blocker, `e` x y x y blocker; a refused call by those of the map before it.
+//! The calls are those of `oracle::map_list`. Every one but an entry is followed by `T`, which no number answers; in `stdout` the
+//! map's points and pairs follow it, as in a listing: `p` x y status blocker, `e` x y x y blocker; after a refused call those of
+//! the map before it.
 use oracle::judged::{Changes, LEAST_SIZE, MOST_CELLS, MOST_COORDINATE, MOST_ENTRIES, MOST_SIZE};
 use oracle::judged_map::{JudgedMap, MOST_POINTS};
 use oracle::layouts::{
@@ -13,7 +11,7 @@ use oracle::layouts::{
 use oracle::map_list::{Call, MapList, Step};
 use oracle::occupancy::Cell;
 use oracle::question::Entry;
-use oracle::vectors::{pair_line, point_line};
+use oracle::vectors::{pair_line, point_line, Vectors};
 use std::collections::{BTreeMap, BTreeSet};
 
 /// What the list must have at least, by the names under which it is counted.
@@ -171,6 +169,7 @@ fn tell(list: &mut MapList, step: Step) {
         }
         _ => (),
     }
+    list.line('T', &[], &[]);
     if let Some(map) = list.map.clone().or(step.before) {
         tables(list, &map);
     }
@@ -485,7 +484,7 @@ fn laid_out_runs(list: &mut MapList) {
     }
 }
 
-fn main() {
+pub fn vectors() -> Vectors {
     let mut list = MapList::new(33, tell);
     example_10(&mut list);
     other_examples(&mut list);
@@ -509,5 +508,5 @@ fn main() {
     if let Some(map) = list.map.clone() {
         end_run(&mut list, &map);
     }
-    list.finish(&NEEDED, [500_000, 1_500_000]);
+    list.finish(&NEEDED, [500_000, 1_500_000])
 }

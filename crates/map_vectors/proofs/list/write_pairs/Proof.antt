@@ -1,8 +1,8 @@
--- `answers_vectors::write_pairs` is safe and ends: the pairs that are left fall. Assumes nothing.
+-- `map_vectors::list::write_pairs` is safe and ends: the pairs that are left fall. Assumes nothing.
 use Prim.Native.Nat.{_-_}
 use native.Mathlib.Omega.{arith}
-use Rattle.answers_vectors.proofs.write_pairs.Statement.{statement}
-use Rattle.answers_vectors.proofs.write_pairs.Tie as tie
+use Rattle.map_vectors.proofs.list.write_pairs.Statement.{statement}
+use Rattle.map_vectors.proofs.list.write_pairs.Tie as tie
 
 abbrev Inv-loop : tie.InvT-loop
 Inv-loop lesser greater blocks count i₀ t6 i = Unit {0}

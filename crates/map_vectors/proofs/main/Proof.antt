@@ -1,7 +1,7 @@
--- `answers_vectors::main` is safe and ends: the turns that are left fall. Nothing has to hold from turn to turn. Assumes nothing.
+-- `map_vectors::main` is safe and ends: the turns that are left fall. Nothing has to hold from turn to turn. Assumes nothing.
 use native.Mathlib.Omega.{arith}
-use Rattle.answers_vectors.proofs.main.Statement.{statement}
-use Rattle.answers_vectors.proofs.main.Tie as tie
+use Rattle.map_vectors.proofs.main.Statement.{statement}
+use Rattle.map_vectors.proofs.main.Tie as tie
 
 abbrev Inv-loop : tie.InvT-loop
 Inv-loop cells₀ points₀ statuses₀ blockers₀ pairs₀ batch₀ state₀ turns₀ cells points statuses blockers pairs batch state turns =

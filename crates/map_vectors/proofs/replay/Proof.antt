@@ -1,9 +1,9 @@
--- `visibility_vectors::replay` is safe and ends: no line is longer than there is room. Assumes nothing.
+-- `map_vectors::replay` is safe and ends: no line is longer than there is room. Assumes nothing.
 use mathlib.Core.Path.{sym}
 use lib.Seq.{length-take-le}
 use borrow.Author.Needs.{needs}
-use Rattle.visibility_vectors.proofs.replay.Statement.{statement}
-use Rattle.visibility_vectors.proofs.replay.Tie as tie
+use Rattle.map_vectors.proofs.replay.Statement.{statement}
+use Rattle.map_vectors.proofs.replay.Tie as tie
 
 slice-aggregate-next-line : tie.Need-slice-aggregate-next-line
 slice-aggregate-next-line c = search needs

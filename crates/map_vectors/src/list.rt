@@ -1,0 +1,113 @@
+// The lists that may be asked of a map. Each line comes back with the refusal and how many there are, then each on a line of its own:
+//
+// O, F: the occupied cells, the points that nothing blocks: . x y
+// C  the cells with a corner: ^ x y status
+// P  all points: p x y status blocker
+// E, U: all pairs, the open ones: e x y x y blocker
+use crate::write::answer_count;
+use crate::write::write_cells;
+use crate::write::write_pair;
+use crate::write::write_points;
+use edges::pairs::all_pairs;
+use edges::pairs::open_pairs;
+use edges::points::all_points;
+use edges::points::free_points;
+use occupied::cells::corner_cells;
+use occupied::cells::occupied_cells;
+use vectors::change::write_changes;
+use visibility::map::Map;
+
+// Writes the first `count` pairs.
+fn write_pairs(lesser: &[u64; 2016], greater: &[u64; 2016], blocks: &[u64; 2016], count: usize) {
+    if 2016 < count {
+        return;
+    }
+    let mut i = 0;
+    while i < count {
+        write_pair(lesser[i], greater[i], blocks[i], b"\n");
+        i += 1;
+    }
+}
+
+fn list_cells(line: &[u8], map: Map, cells: &[u64; 1024]) {
+    let mut out = [0u64; 1024];
+    let r = occupied_cells(map, cells, &mut out);
+    answer_count(line, r);
+    write_cells(&out, r.count);
+}
+
+fn list_corners(line: &[u8], map: Map, cells: &[u64; 1024]) {
+    let mut out = [0u64; 1024];
+    let mut statuses = [0u8; 1024];
+    let r = corner_cells(map, cells, &mut out, &mut statuses);
+    answer_count(line, r);
+    write_changes(b"^ ", &out, &statuses, r.count);
+}
+
+fn list_points(
+    line: &[u8],
+    map: Map,
+    points: &[u64; 64],
+    statuses: &[u8; 64],
+    blockers: &[u64; 64],
+) {
+    let mut out = [0u64; 64];
+    let mut bits = [0u8; 64];
+    let mut blocks = [0u64; 64];
+    let r = all_points(
+        map,
+        points,
+        statuses,
+        blockers,
+        &mut out,
+        &mut bits,
+        &mut blocks,
+    );
+    answer_count(line, r);
+    write_points(r.count, &out, &bits, &blocks);
+}
+
+fn list_free(line: &[u8], map: Map, points: &[u64; 64], blockers: &[u64; 64]) {
+    let mut out = [0u64; 64];
+    let r = free_points(map, points, blockers, &mut out);
+    answer_count(line, r);
+    write_cells(&out, r.count);
+}
+
+fn list_pairs(line: &[u8], map: Map, points: &[u64; 64], pairs: &[u64; 4096]) {
+    let mut lesser = [0u64; 2016];
+    let mut greater = [0u64; 2016];
+    let mut blocks = [0u64; 2016];
+    let r = all_pairs(map, points, pairs, &mut lesser, &mut greater, &mut blocks);
+    answer_count(line, r);
+    write_pairs(&lesser, &greater, &blocks, r.count);
+}
+
+// Nothing blocks them.
+fn list_open(line: &[u8], map: Map, points: &[u64; 64], blockers: &[u64; 64], pairs: &[u64; 4096]) {
+    let mut lesser = [0u64; 2016];
+    let mut greater = [0u64; 2016];
+    let r = open_pairs(map, points, blockers, pairs, &mut lesser, &mut greater);
+    answer_count(line, r);
+    write_pairs(&lesser, &greater, &[0; 2016], r.count);
+}
+
+pub(crate) fn tell_list(
+    letter: u8,
+    line: &[u8],
+    map: Map,
+    cells: &[u64; 1024],
+    points: &[u64; 64],
+    statuses: &[u8; 64],
+    blockers: &[u64; 64],
+    pairs: &[u64; 4096],
+) {
+    match letter {
+        b'O' => list_cells(line, map, cells),
+        b'C' => list_corners(line, map, cells),
+        b'P' => list_points(line, map, points, statuses, blockers),
+        b'F' => list_free(line, map, points, blockers),
+        b'E' => list_pairs(line, map, points, pairs),
+        _ => list_open(line, map, points, blockers, pairs),
+    }
+}

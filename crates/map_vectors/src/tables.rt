@@ -1,0 +1,58 @@
+// The tables themselves, as the last call left them:
+//
+// T  no number; then the map's points and pairs, p x y status blocker and e x y x y blocker, with a ! where the pair's two places
+//    in the table differ. After a refused call they are those of the map before it.
+use crate::write::write_pair;
+use crate::write::write_points;
+use vectors::answer;
+use visibility::map::Map;
+ghost use Prim.Native.Nat.{_<_, _≤_};
+
+// A pair as the lesser point's row has it, and as the greater's has it, 0 for no pair.
+fn write_both(lesser: u64, greater: u64, there: u64, back: u64) {
+    if there == back {
+        if there != 0 {
+            write_pair(lesser, greater, there, b"\n");
+        }
+    } else {
+        write_pair(lesser, greater, there, b" !\n");
+    }
+}
+
+// A point's pairs with those that are not less. None has one with itself.
+fn write_row(i: usize, count: usize, points: &[u64; 64], pairs: &[u64; 4096])
+    requires { ⌜ (i < count) × (count ≤ 64) ⌝ }
+{
+    let mut j = i;
+    while j < count {
+        write_both(points[i], points[j], pairs[64 * i + j], pairs[64 * j + i]);
+        j += 1;
+    }
+}
+
+fn write_pairs(count: usize, points: &[u64; 64], pairs: &[u64; 4096])
+    requires { ⌜ count ≤ 64 ⌝ }
+{
+    let mut i = 0;
+    while i < count {
+        write_row(i, count, points, pairs);
+        i += 1;
+    }
+}
+
+// Every point and every pair of a map.
+pub(crate) fn tell_tables(
+    line: &[u8],
+    map: Map,
+    points: &[u64; 64],
+    statuses: &[u8; 64],
+    blockers: &[u64; 64],
+    pairs: &[u64; 4096],
+) {
+    answer(line, &[]);
+    let count = map.points;
+    if count <= 64 {
+        write_points(count, points, statuses, blockers);
+        write_pairs(count, points, pairs);
+    }
+}
