@@ -13,6 +13,8 @@ use copy::copy::clear;
 use floor::cell::is_occupied;
 use floor::floor::Floor;
 use grid::change::change_cells;
+use patterns::float_at;
+use patterns::integer_at;
 use question_vectors::answer_place;
 use question_vectors::cell_at;
 use question_vectors::question_at;
@@ -20,8 +22,6 @@ use questions::ask::ask;
 use vectors::answer;
 use vectors::change::enter;
 use vectors::change::write_changes;
-use vectors::float_at;
-use vectors::integer_at;
 
 // The floor, the numbers of the batch so far, and whether there was a line.
 struct State {

@@ -2,9 +2,9 @@
 // bit patterns, 36 bytes in all, and comes back with the answer's pattern behind it. What Rust's own
 // functions answer is in the file stdout beside src/.
 use libc::STDOUT_FILENO;
-use vectors::float_at;
-use vectors::pattern_of;
-use vectors::signed;
+use patterns::float_at;
+use patterns::pattern_of;
+use patterns::signed;
 
 fn answer(function: u8, x: f64, y: f64) -> u64 {
     match function {

@@ -7,11 +7,11 @@
 // r  radius: the radius is changed: refusal, cells, points
 //
 // Sizes and radii are bit patterns of f64, coordinates are two's complements.
+use patterns::float_at;
+use patterns::integer_at;
 use vectors::answer;
 use vectors::change::enter;
 use vectors::change::write_changes;
-use vectors::float_at;
-use vectors::integer_at;
 use visibility::change::Changed;
 use visibility::change::change_cells;
 use visibility::map::Map;
@@ -28,6 +28,7 @@ pub(crate) struct State {
     pub more: bool,
 }
 
+// Its own tables are told.
 fn with(map: Map, used: usize) -> State {
     State {
         map,
@@ -110,6 +111,20 @@ pub(crate) fn add(line: &[u8], state: State, batch: &mut [i64; 900], full: i64) 
     next
 }
 
+// What a batch did: its numbers, then each change.
+fn tell_changes(
+    line: &[u8],
+    r: Changed,
+    confirmed: &[u64; 256],
+    full: &[u8; 256],
+    corners: &[u64; 2304],
+    altered: &[u8; 2304],
+) {
+    answer_batch(line, r);
+    write_changes(b"= ", confirmed, full, r.confirmed);
+    write_changes(b"^ ", corners, altered, r.corners);
+}
+
 // Returns the map afterwards.
 fn change(
     line: &[u8],
@@ -138,9 +153,7 @@ fn change(
         &mut corners,
         &mut altered,
     );
-    answer_batch(line, r);
-    write_changes(b"= ", &confirmed, &full, r.confirmed);
-    write_changes(b"^ ", &corners, &altered, r.corners);
+    tell_changes(line, r, &confirmed, &full, &corners, &altered);
     let after = r.map;
     if r.refusal == 0 { after } else { map }
 }

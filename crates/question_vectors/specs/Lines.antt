@@ -6,7 +6,7 @@ use lib.Dec.{eqb}
 use lib.Ieee.{Float}
 use Rattle.model.specs.Plane.{Pt}
 use Rattle.model.specs.Shape.{Question, point, square, circle, sweep}
-use Rattle.vectors.specs.Vectors.{floatOf, patternAt}
+use Rattle.patterns.specs.Patterns.{floatOf, patternAt}
 
 -- two operands, one after the other
 abbrev pub pointAt : List ℕ → ℕ → Pt

@@ -1,18 +1,18 @@
 // What the programs share that replay questions: a line's cell or question, and how a question's answer is written.
 use floor::cell::Cell;
+use patterns::float_at;
+use patterns::integer_at;
+use patterns::signed;
 use plane::point::Point;
 use question::search::Question;
 use questions::ask::Answer;
 use questions::ask::Place;
 use vectors::answer;
-use vectors::float_at;
-use vectors::integer_at;
-use vectors::signed;
 ghost use mathlib.Core.Path.{_≡_};
 ghost use Prim.Native.Nat.{_<_};
+ghost use Rattle.patterns.specs.Patterns.{integerOf, patternAt};
 ghost use Rattle.plane.specs.Values.{pt};
 ghost use Rattle.question.specs.Question.{asked};
-ghost use Rattle.vectors.specs.Vectors.{integerOf, patternAt};
 ghost use Rattle.question_vectors.specs.Lines.{pointAt, questionAt, shaped};
 
 // Column and row.

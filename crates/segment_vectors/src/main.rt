@@ -12,12 +12,12 @@
 // answers 1 or 0, and no value.
 use extent::search::SearchF64;
 use libc::STDOUT_FILENO;
+use patterns::float_at;
+use patterns::pattern_at;
+use patterns::pattern_of;
 use plane::point::Point;
 use segment::line::Crossings;
 use segment::line::LineSegment;
-use vectors::float_at;
-use vectors::pattern_at;
-use vectors::pattern_of;
 ghost use Prim.Native.Nat.{_<_};
 
 fn point_at(line: &[u8], from: usize) -> Point

@@ -1,3 +1,2 @@
 -- The laws of crate `vectors`.
 pub mod EnterLaws
-pub mod PatternLaws

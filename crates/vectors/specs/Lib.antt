@@ -1,3 +1,2 @@
 -- What the contracts of crate `vectors` cite.
 pub mod Entered
-pub mod Vectors

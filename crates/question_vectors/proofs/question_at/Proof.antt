@@ -3,9 +3,9 @@ use mathlib.Core.Path.{ap, _∙_}
 use borrow.Author.Needs.{needs}
 use lib.Ieee.{Float}
 use Rattle.model.specs.Plane.{Pt}
+use Rattle.patterns.specs.Patterns.{floatOf, patternAt}
 use Rattle.plane.specs.Values.{pt}
 use Rattle.question_vectors.specs.Lines.{pointAt, shaped}
-use Rattle.vectors.specs.Vectors.{floatOf, patternAt}
 use Rattle.question_vectors.proofs.question_at.Statement.{statement}
 use Rattle.question_vectors.proofs.question_at.Tie as tie
 

@@ -1,9 +1,9 @@
--- `vectors::float_at`: the float of the pattern. Assumes nothing.
+-- `patterns::float_at`: the float of the pattern. Assumes nothing.
 use mathlib.Core.Path.{ap, _∙_}
 use borrow.Author.Needs.{needs}
-use Rattle.vectors.specs.Vectors.{floatOf}
-use Rattle.vectors.proofs.float_at.Statement.{statement}
-use Rattle.vectors.proofs.float_at.Tie as tie
+use Rattle.patterns.specs.Patterns.{floatOf}
+use Rattle.patterns.proofs.float_at.Statement.{statement}
+use Rattle.patterns.proofs.float_at.Tie as tie
 
 pattern-at-requires : tie.Need-pattern-at-requires
 pattern-at-requires c κs = search needs

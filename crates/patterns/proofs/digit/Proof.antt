@@ -1,11 +1,11 @@
--- `vectors::digit`: a letter, a decimal digit, or neither. Assumes nothing.
+-- `patterns::digit`: a letter, a decimal digit, or neither. Assumes nothing.
 use Prim.Native.Nat.{_<_}
 use native.Mathlib.Omega.{arith}
 use mathlib.Core.Logic.{_⊎_, inl, inr, ⊎-elim}
 use borrow.Author.Needs.{needs}
-use Rattle.vectors.proofs.PatternLaws.{letter, decimal, neither}
-use Rattle.vectors.proofs.digit.Statement.{statement}
-use Rattle.vectors.proofs.digit.Tie as tie
+use Rattle.patterns.proofs.PatternLaws.{letter, decimal, neither}
+use Rattle.patterns.proofs.digit.Statement.{statement}
+use Rattle.patterns.proofs.digit.Tie as tie
 
 cast-result : tie.Need-cast-result
 cast-result c = search needs

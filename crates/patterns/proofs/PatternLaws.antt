@@ -9,7 +9,7 @@ use lib.Dec.{leb}
 use lib.ListN.{length, take, drop, getD}
 use lib.Seq.{drop-cons}
 use borrow.Author.Tests.{le-leb, lt-leb}
-use Rattle.vectors.specs.Vectors.{digitOf, hex, patternAt}
+use Rattle.patterns.specs.Patterns.{digitOf, hex, patternAt}
 
 -- ---- a digit
 within : (lo hi b : ℕ) → lo ≤ b → b ≤ hi → leb lo b && leb b hi ≡ true

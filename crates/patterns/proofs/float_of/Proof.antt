@@ -1,4 +1,4 @@
--- `vectors::float_of`: past the test the pattern is no NaN's. Assumes nothing.
+-- `patterns::float_of`: past the test the pattern is no NaN's. Assumes nothing.
 use mathlib.Core.Path.{refl, sym, subst, _∙_}
 use mathlib.Core.Bool.{Bool, not}
 use Prim.Native.Nat.{_%_, _*_, _^_}
@@ -6,9 +6,9 @@ use lib.Dec.{T}
 use lib.Ieee.{binary64, div, ofBits}
 use lib.Ieee.Bits.{nanBits-above}
 use borrow.Author.Tests.{lt-ltb, le-ltb}
-use Rattle.vectors.specs.Vectors.{floatOf}
-use Rattle.vectors.proofs.float_of.Statement.{statement}
-use Rattle.vectors.proofs.float_of.Tie as tie
+use Rattle.patterns.specs.Patterns.{floatOf}
+use Rattle.patterns.proofs.float_of.Statement.{statement}
+use Rattle.patterns.proofs.float_of.Tie as tie
 
 returns : tie.Need-returns
 unfolding floatOf div ofBits

@@ -1,4 +1,4 @@
--- `vectors::signed`: -1 - n is n's magnitude less one where n is negative. Assumes nothing.
+-- `patterns::signed`: -1 - n is n's magnitude less one where n is negative. Assumes nothing.
 use mathlib.Core.Path.{_≡_, refl, sym, ap, _∙_, subst}
 use Prim.Native.Nat.{ℕ, suc, _-_, _^_, _≤_, _<_}
 use native.Mathlib.Omega.{arith}
@@ -10,9 +10,9 @@ use mir.Syntax.{w64}
 use mir.Val.{SFits, Fits, toZ, ofZ}
 use mir.ValLaws.{toZ-ofZ}
 use borrow.Author.Tests.{le-ltb, ltb-true}
-use Rattle.vectors.specs.Vectors.{signedOf}
-use Rattle.vectors.proofs.signed.Statement.{statement}
-use Rattle.vectors.proofs.signed.Tie as tie
+use Rattle.patterns.specs.Patterns.{signedOf}
+use Rattle.patterns.proofs.signed.Statement.{statement}
+use Rattle.patterns.proofs.signed.Tie as tie
 
 -- ---- the two cases, over a plain integer
 not-negative : (n : ℕ) → ltZ (pos n) (pos 0) ≡ true → ⊥

@@ -1,4 +1,4 @@
--- `vectors::integer_of` has the pattern for its two's complement. Assumes nothing.
+-- `patterns::integer_of` has the pattern for its two's complement. Assumes nothing.
 use mathlib.Core.Path.{_≡_, refl, sym, ap, _∙_, subst}
 use Prim.Native.Nat.{ℕ, _-_, _^_, _≤_, _<_}
 use native.Mathlib.Omega.{arith}
@@ -9,9 +9,9 @@ use mir.ValLaws.{toZ-ofZ, toZ-pos}
 use borrow.Author.Needs.{needs}
 use borrow.Author.Tests.{lt-ltb, le-ltb}
 use Rattle.ieee.proofs.Integers.{less-parts, same-int}
-use Rattle.vectors.specs.Vectors.{integerOf}
-use Rattle.vectors.proofs.integer_of.Statement.{statement}
-use Rattle.vectors.proofs.integer_of.Tie as tie
+use Rattle.patterns.specs.Patterns.{integerOf}
+use Rattle.patterns.proofs.integer_of.Statement.{statement}
+use Rattle.patterns.proofs.integer_of.Tie as tie
 
 -- ---- the two cases, over a plain pattern
 low : (n : ℕ) → n < 2 ^ 63 → toZ w64 n ≡ integerOf n

@@ -1,11 +1,11 @@
--- `vectors::pattern_at`: what the digits not yet read make of the number so far stays the pattern. Assumes nothing.
+-- `patterns::pattern_at`: what the digits not yet read make of the number so far stays the pattern. Assumes nothing.
 use Prim.Native.Nat.{_≤_, _<_, _+_, _-_}
 use native.Mathlib.Omega.{arith}
 use lib.ListN.{length}
 use borrow.Author.Needs.{needs}
-use Rattle.vectors.proofs.PatternLaws.{Held, none-read, one-read, all-read, too-short}
-use Rattle.vectors.proofs.pattern_at.Statement.{statement}
-use Rattle.vectors.proofs.pattern_at.Tie as tie
+use Rattle.patterns.proofs.PatternLaws.{Held, none-read, one-read, all-read, too-short}
+use Rattle.patterns.proofs.pattern_at.Statement.{statement}
+use Rattle.patterns.proofs.pattern_at.Tie as tie
 
 abbrev Inv-loop : tie.InvT-loop
 Inv-loop line from v₀ i₀ v i = (i ≤ 16) × Held line from v i

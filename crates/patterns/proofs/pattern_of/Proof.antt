@@ -1,11 +1,11 @@
--- `vectors::pattern_of`: past the test the value is no NaN. Assumes nothing.
+-- `patterns::pattern_of`: past the test the value is no NaN. Assumes nothing.
 use mathlib.Core.Path.{refl, sym, subst}
 use mathlib.Core.Bool.{Bool, not}
 use lib.Dec.{T}
 use Rattle.ieee.proofs.Picks.{is-nan, no-nan}
-use Rattle.vectors.specs.Vectors.{patternOf}
-use Rattle.vectors.proofs.pattern_of.Statement.{statement}
-use Rattle.vectors.proofs.pattern_of.Tie as tie
+use Rattle.patterns.specs.Patterns.{patternOf}
+use Rattle.patterns.proofs.pattern_of.Statement.{statement}
+use Rattle.patterns.proofs.pattern_of.Tie as tie
 
 returns : tie.Need-returns
 unfolding patternOf

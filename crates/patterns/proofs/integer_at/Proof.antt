@@ -1,12 +1,12 @@
--- `vectors::integer_at`: the integer of the pattern. Assumes nothing.
+-- `patterns::integer_at`: the integer of the pattern. Assumes nothing.
 use mathlib.Core.Path.{ap, _∙_}
 use mir.Syntax.{w64}
 use mir.Val.{SFits}
 use mir.ValLaws.{toZ-ofZ}
 use borrow.Author.Needs.{needs}
-use Rattle.vectors.specs.Vectors.{integerOf}
-use Rattle.vectors.proofs.integer_at.Statement.{statement}
-use Rattle.vectors.proofs.integer_at.Tie as tie
+use Rattle.patterns.specs.Patterns.{integerOf}
+use Rattle.patterns.proofs.integer_at.Statement.{statement}
+use Rattle.patterns.proofs.integer_at.Tie as tie
 
 pattern-at-requires : tie.Need-pattern-at-requires
 pattern-at-requires c κs = search needs

@@ -1,0 +1,2 @@
+-- The laws of crate `patterns`.
+pub mod PatternLaws

@@ -1,0 +1,2 @@
+-- What the contracts of crate `patterns` cite.
+pub mod Patterns
