@@ -7,8 +7,8 @@ use lib.Dec.{ltb}
 use borrow.Author.Tests.{ltb-false}
 use Rattle.model.proofs.RunLaws as model
 use Rattle.model.specs.Refusal.{short}
-use Rattle.visibility.proofs.OpenLaws as tables
-use Rattle.visibility.specs.declared.map.Map.{Map}
+use Rattle.held.proofs.RoomLaws as tables
+use Rattle.held.specs.declared.map.Map.{Map}
 use Rattle.answers.specs.Asking.{refuseMap}
 
 -- no table is short, no coordinate is outside, no query number bad, and there are no more cells and points than there may be

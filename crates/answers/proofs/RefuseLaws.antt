@@ -4,12 +4,11 @@ use mathlib.Core.Path.{_≡_, refl, sym, _∙_}
 use mathlib.Core.Bool.{Bool, true, false, cond}
 use mathlib.Core.List.{List}
 use lib.Dec.{ltb}
-use lib.ListN.{length}
 use borrow.Author.Tests.{lt-ltb, le-ltb}
 use Rattle.model.specs.Map as model
 use Rattle.model.specs.Refusal.{badRadius, badSize, firstOf, refuseAsking, short, verdict}
-use Rattle.visibility.specs.Holds.{Holds, Tables}
-use Rattle.visibility.specs.declared.map.Map.{Map}
+use Rattle.held.specs.Holds.{Holds, Tables}
+use Rattle.held.specs.declared.map.Map.{Map}
 use Rattle.answers.specs.Asking.{refuseMap}
 
 module _ (s : Bool) (m : Map) (off bad : Bool) where

@@ -8,8 +8,8 @@ use lib.ListN.{drop, length}
 use Rattle.model.specs.Limits.{maxCells, maxPoints}
 use Rattle.model.specs.Map as model
 use Rattle.model.specs.Refusal.{badRadius, badSize, verdict}
-use Rattle.visibility.specs.Holds.{Holds, Tables}
-use Rattle.visibility.specs.declared.map.Map.{Map}
+use Rattle.held.specs.Holds.{Holds, Tables}
+use Rattle.held.specs.declared.map.Map.{Map}
 use Rattle.answers.specs.declared.judge.Count.{Count}
 
 -- the model's refusals of such a call (`refuseAsking`), by what is handed in alone: whether a lent table is short, the map, whether a coordinate is outside, whether a query number is bad

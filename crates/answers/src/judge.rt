@@ -1,8 +1,8 @@
 // The refusals of a call that leaves the map as it is.
 use floor::cell::Cell;
-use floor::judge::bad_size;
-use floor::radius::bad_radius;
-use visibility::map::Map;
+use held::map::Map;
+use limits::judge::bad_size;
+use limits::radius::bad_radius;
 ghost use mathlib.Core.Path.{_≡_};
 ghost use mathlib.Core.Bool.{_||_};
 ghost use lib.Dec.{ltb};

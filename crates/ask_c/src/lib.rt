@@ -1,11 +1,11 @@
 // The question of four shapes under a C name.
 use floor::cell::Cell;
+use held::map::Map;
 use occupied::ask::ask;
 use plane::point::Point;
 use question::search::Question;
 use questions::ask::Answer;
 use questions::ask::Place;
-use visibility::map::Map;
 ghost use mathlib.Core.Path.{_≡_};
 ghost use Rattle.ask_c.specs.Told.{foundOf, questionOf};
 ghost use Rattle.occupied.specs.Lists.{Asks};

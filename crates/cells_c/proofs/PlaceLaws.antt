@@ -7,8 +7,8 @@ use lib.Signed.{mag}
 use mir.Syntax.{w64}
 use mir.Val.{SFits, toZ, ofZ}
 use mir.ValLaws.{toZ-ofZ}
-use Rattle.floor.proofs.SignedLaws.{back}
 use Rattle.floor.specs.declared.cell.Cell.{Cell}
+use Rattle.limits.proofs.SignedLaws.{back}
 use Rattle.plane.specs.declared.point.Point.{Point}
 
 -- a place f along one side, from the number's nearest float

@@ -1,7 +1,7 @@
 // The circle test of one cell: `is_circle_occupied`, past the ranges of its loops.
-use plane::cell;
 use plane::point::Point;
 use plane::point::Vector;
+use spot::cell;
 ghost use mathlib.Core.Path.{_≡_};
 ghost use Rattle.plane.specs.Values.{pt, vec};
 ghost use Rattle.circle.specs.Circle.{circleOf, pointWithin, lineWithin, facing, sidesWithin, circleMeets};

@@ -4,8 +4,11 @@ use mathlib.Core.Path.{_≡_}
 use mathlib.Core.Bool.{not, Bool·beq}
 use mathlib.Core.List.{List, [], _∷_}
 use Rattle.model.specs.Cell.{W}
-use Rattle.model.specs.Corner.{Bits, number}
-use Rattle.model.specs.Maps.{has}
+use lib.ListN.{length}
+use Rattle.model.specs.Corner.{Bits, cornerCells, number}
+use Rattle.model.specs.Maps.{AscL, has}
+use Rattle.table.specs.Listed.{Listed}
+use Rattle.table.specs.Tables.{All}
 
 -- C′ is C with the cells of K turned over
 abbrev pub Turned : List ℕ → List ℕ → List ℕ → Type 0
@@ -19,3 +22,8 @@ Inner k = (2 * W + 2 ≤ k) × (k + (2 * W + 2) < 2 ^ 64)
 abbrev pub numbered : List (ℕ × Bits) → List (ℕ × ℕ)
 numbered [] = []
 numbered (e ∷ l) = (e .0, number (e .1)) ∷ numbered l
+
+-- the corner cells of an ascending table u are listed, with their statuses
+abbrev pub Cornered : List ℕ → List ℕ → List ℕ → List ℕ → List ℕ → ℕ → Type 0
+Cornered u out out′ statuses statuses′ r =
+    AscL 0 u → All Inner u → length u ≤ length out → length u ≤ length statuses → Listed (numbered (cornerCells u)) out out′ statuses statuses′ r

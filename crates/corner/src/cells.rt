@@ -2,17 +2,13 @@
 use crate::status::status_of;
 ghost use Prim.Native.Nat.{_<_, _≤_};
 ghost use lib.ListN.{length};
-ghost use Rattle.model.specs.Corner.{cornerCells};
-ghost use Rattle.model.specs.Maps.{AscL};
-ghost use Rattle.table.specs.Listed.{Listed, Unlisted};
-ghost use Rattle.table.specs.Tables.{All};
-ghost use Rattle.corner.specs.Changes.{Inner, numbered};
+ghost use Rattle.table.specs.Listed.{Unlisted};
+ghost use Rattle.corner.specs.Changes.{Cornered};
 
 // The cells that have a corner, ascending, with their statuses. Returns how many there are. Nothing is written where
 // there is no room for as many as there are cells.
 pub fn corner_cells(cells: &[u64], out: &mut [u64], statuses: &mut [u8]) -> usize
-    ensures { λ r. ⌜ (AscL 0 (now (cells .entry)) → All Inner (now (cells .entry)) → length (now (cells .entry)) ≤ length (now (out .entry)) → length (now (cells .entry)) ≤ length (now (statuses .entry))
-        → Listed (numbered (cornerCells (now (cells .entry)))) (now (out .entry)) (now (out .exit)) (now (statuses .entry)) (now (statuses .exit)) r)
+    ensures { λ r. ⌜ Cornered (now (cells .entry)) (now (out .entry)) (now (out .exit)) (now (statuses .entry)) (now (statuses .exit)) r
         × (length (now (out .entry)) < length (now (cells .entry)) → Unlisted (now (out .entry)) (now (out .exit)) (now (statuses .entry)) (now (statuses .exit)) r)
         × (length (now (statuses .entry)) < length (now (cells .entry)) → Unlisted (now (out .entry)) (now (out .exit)) (now (statuses .entry)) (now (statuses .exit)) r)
         × (r ≤ length (now (cells .entry))) ⌝ }

@@ -4,7 +4,7 @@ use mathlib.Core.Path.{_≡_, refl}
 use mathlib.Core.List.{List}
 use Rattle.answers.proofs.ListingLaws.{Settled, list-one}
 use Rattle.answers.specs.declared.judge.Count.{Count}
-use Rattle.visibility.specs.declared.map.Map.{Map}
+use Rattle.held.specs.declared.map.Map.{Map}
 use Rattle.edges.specs.Lists.{AllPairs, AllPoints, FreeHeld, FreePoints, OpenHeld, OpenPairs, PairsHeld, PointsHeld, freeDue, openDue, pairsDue, pointsDue}
 
 -- `all_points`

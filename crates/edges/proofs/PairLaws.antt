@@ -9,10 +9,10 @@ use Rattle.model.specs.Answers.{allPairs, isOpen, openPairs}
 use Rattle.model.specs.Layer.{Layer, Pair, pairs}
 use Rattle.model.specs.Map as model
 use Rattle.model.specs.Maps.{sift}
-use Rattle.visibility.proofs.LayerLaws.{layer-blocks, layer-keys}
-use Rattle.visibility.proofs.NamedLaws.{blocks-named, pairs-named}
-use Rattle.visibility.specs.Holds.{Holds, Tables}
-use Rattle.visibility.specs.declared.map.Map.{Map}
+use Rattle.held.proofs.LayerLaws.{layer-blocks, layer-keys}
+use Rattle.held.proofs.NamedLaws.{blocks-named, pairs-named}
+use Rattle.held.specs.Holds.{Holds, Tables}
+use Rattle.held.specs.declared.map.Map.{Map}
 use Rattle.edges.specs.Columns.{greaters, lessers, pairBlocks}
 use Rattle.edges.specs.Walks.{Front, Shown, ShownOpen, pairsOf, rowOf}
 use Rattle.edges.proofs.ReadLaws.{inside, pairs-end, pairs-next, row-shut}

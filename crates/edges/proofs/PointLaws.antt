@@ -11,23 +11,20 @@ use lib.Seq.{drop-cons, length-take-le}
 use Rattle.answers.specs.Asking.{Written}
 use Rattle.copy.specs.Copied.{Copied}
 use Rattle.grid.proofs.ListedLaws.{keys-at}
-use Rattle.marks.proofs.BeginLaws.{statuses-length}
-use Rattle.marks.specs.Marked.{statusesOf}
+use Rattle.held.proofs.LayerLaws.{codes-count, layer-blocks, layer-few, layer-keys, layer-statuses, statuses-length}
+use Rattle.held.specs.Layers.{blocksOf, statusesOf}
 use Rattle.model.specs.Answers.{free, freePoints}
 use Rattle.model.specs.Answers as asked
 use Rattle.model.specs.Corner.{zero4}
 use Rattle.model.specs.Layer.{Point, Points}
 use Rattle.model.specs.Map as model
 use Rattle.model.specs.Maps.{keys, sift}
-use Rattle.sight.specs.Blocked.{AllNamed, codes}
-use Rattle.sight.specs.Codes.{Named, blockCode}
+use Rattle.held.specs.Codes.{AllNamed, Named, blockCode, codes}
 use Rattle.table.proofs.ListedLaws.{keys-length}
-use Rattle.visibility.proofs.LayerLaws.{codes-count, layer-blocks, layer-few, layer-keys, layer-statuses}
-use Rattle.visibility.proofs.NamedLaws.{blocks-named}
-use Rattle.visibility.proofs.PadLaws.{copied}
-use Rattle.visibility.specs.Holds.{Holds, Tables}
-use Rattle.visibility.specs.Layers.{blocksOf}
-use Rattle.visibility.specs.declared.map.Map.{Map}
+use Rattle.held.proofs.NamedLaws.{blocks-named}
+use Rattle.held.proofs.PadLaws.{copied}
+use Rattle.held.specs.Holds.{Holds, Tables}
+use Rattle.held.specs.declared.map.Map.{Map}
 use Rattle.edges.specs.Walks.{Front}
 use Rattle.edges.proofs.WalkLaws.{Growing, growing-done, growing-none, growing-pass, growing-put, sift-append, sift-nil, sift-one, sift-out}
 

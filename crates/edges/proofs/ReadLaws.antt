@@ -14,9 +14,9 @@ use Rattle.model.specs.Answers.{free, freeAt, isOpen}
 use Rattle.model.specs.Layer.{Edges, Layer, Pair, Points, edge, pairOf, pairs, pairsFrom}
 use Rattle.model.specs.Maps.{get, keys, sift}
 use Rattle.model.proofs.OrderLaws.{Within, asc-within}
-use Rattle.sight.specs.Codes.{NamedPair, blockCode, pairCode}
+use Rattle.held.specs.Codes.{NamedPair, blockCode, pairCode}
 use Rattle.table.proofs.ListedLaws.{keys-length}
-use Rattle.visibility.specs.Layers.{edgeAt}
+use Rattle.held.specs.Layers.{edgeAt}
 use Rattle.edges.specs.Walks.{Shown, ShownOpen, rowFrom, rowOf}
 use Rattle.edges.proofs.PointLaws.{key-at, nowhere, pointAt, reads-blocked, reads-free, unblocked}
 use Rattle.edges.proofs.WalkLaws.{sift-append, sift-nil, sift-one, sift-out}

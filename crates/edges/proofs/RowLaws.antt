@@ -7,7 +7,7 @@ use lib.ListN.{getD, length, set}
 use Rattle.model.specs.Answers.{isOpen}
 use Rattle.model.specs.Layer.{Layer, Pair}
 use Rattle.model.specs.Maps.{sift}
-use Rattle.sight.specs.Codes.{blockCode}
+use Rattle.held.specs.Codes.{blockCode}
 use Rattle.edges.specs.Columns.{greaters, lessers, pairBlocks}
 use Rattle.edges.specs.Walks.{Grows, Shown, ShownOpen, rowFrom, rowOf}
 use Rattle.edges.proofs.ReadLaws.{pairAt, reads-blocker, reads-clear, reads-key, reads-none, reads-open, reads-other, reads-shut, reads-some, row-end}

@@ -2,7 +2,7 @@
 use Prim.Native.Nat.{ℕ}
 use mathlib.Core.List.{List, [], _∷_}
 use Rattle.model.specs.Layer.{Pair}
-use Rattle.sight.specs.Codes.{blockCode}
+use Rattle.held.specs.Codes.{blockCode}
 
 abbrev pub lessers : List Pair → List ℕ
 lessers [] = []

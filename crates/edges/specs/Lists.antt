@@ -6,17 +6,16 @@ use mathlib.Core.List.{List, [], _∷_}
 use lib.ListN.{length}
 use Rattle.answers.specs.Asking.{HoldsSome, Listing, Output, refuseMap}
 use Rattle.answers.specs.declared.judge.Count.{Count}
-use Rattle.marks.specs.Marked.{statusesOf}
+use Rattle.held.specs.Layers.{blocksOf, statusesOf}
 use Rattle.model.specs.Answers.{allPairs, freePoints, openPairs}
 use Rattle.model.specs.Answers as asked
 use Rattle.model.specs.Limits.{maxPoints, needOthers, needPairs}
 use Rattle.model.specs.Map as model
 use Rattle.model.specs.Maps.{keys}
 use Rattle.model.specs.Refusal.{short}
-use Rattle.sight.specs.Blocked.{codes}
-use Rattle.sight.specs.Paired.{pairPlaces}
-use Rattle.visibility.specs.Layers.{blocksOf}
-use Rattle.visibility.specs.declared.map.Map.{Map}
+use Rattle.held.specs.Codes.{codes}
+use Rattle.held.specs.Pairs.{pairPlaces}
+use Rattle.held.specs.declared.map.Map.{Map}
 use Rattle.edges.specs.Columns.{greaters, lessers, pairBlocks}
 
 -- `all_points`: the points, their statuses, their blockers

@@ -6,9 +6,9 @@ use lib.ListN.{drop, getD, length}
 use Rattle.model.specs.Layer.{Layer, Pair, pairs, pairsFrom}
 use Rattle.model.specs.Limits.{maxPoints}
 use Rattle.model.specs.Maps.{Asc, keys}
-use Rattle.sight.specs.Blocked.{AllNamed, codes}
-use Rattle.sight.specs.Paired.{Pairs, PairsNamed}
-use Rattle.visibility.specs.Layers.{blocksOf, edgeAt}
+use Rattle.held.specs.Codes.{AllNamed, codes}
+use Rattle.held.specs.Pairs.{Pairs, PairsNamed}
+use Rattle.held.specs.Layers.{blocksOf, edgeAt}
 
 -- the n things v stand at the front of t′, and behind them is what t had there
 abbrev pub Front : List ℕ → ℕ → List ℕ → List ℕ → Type 0

@@ -5,7 +5,7 @@ use answers::judge::refuse;
 use answers::judge::refused;
 use copy::bytes::copy_bytes;
 use copy::copy::copy;
-use visibility::map::Map;
+use held::map::Map;
 ghost use mathlib.Core.Path.{_≡_};
 ghost use mathlib.Core.List.{_++_};
 ghost use Prim.Native.Nat.{_≤_};
@@ -13,8 +13,8 @@ ghost use lib.ListN.{drop, length};
 ghost use Rattle.model.specs.Answers.{free};
 ghost use Rattle.model.specs.Layer.{Points};
 ghost use Rattle.model.specs.Maps.{keys, sift};
-ghost use Rattle.sight.specs.Blocked.{AllNamed, codes};
-ghost use Rattle.visibility.specs.Layers.{blocksOf};
+ghost use Rattle.held.specs.Codes.{AllNamed, codes};
+ghost use Rattle.held.specs.Layers.{blocksOf};
 ghost use Rattle.edges.specs.Lists.{AllPoints, FreePoints};
 
 // All points, ascending, with their statuses and their blockers (0 for none, or a key).

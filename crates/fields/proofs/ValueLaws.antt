@@ -1,5 +1,5 @@
 -- Bytes as numbers: a float's pattern, four bytes as an i32, and the flags of a batch. Assumes nothing.
-use Prim.Native.Nat.{ℕ, suc, _+_, _-_, _*_, _/_, _%_, _^_, _≤_, _<_, zero-le}
+use Prim.Native.Nat.{ℕ, suc, _+_, _-_, _*_, _/_, _^_, _≤_, _<_, zero-le}
 use native.Mathlib.Nat.{pow-le-pow-right, pow-succ', zero-lt-suc}
 use native.Mathlib.Numerals.{add-one}
 use native.Mathlib.Omega.{arith}
@@ -11,29 +11,12 @@ use lib.Dec.{ltb}
 use lib.ListN.{length, take, drop, getD, drop-of-length-le, length-drop}
 use lib.Seq.{drop-cons, drop-drop, getD-drop, take-nil}
 use lib.IntN.{ℤ, pos, negsuc, _-ℤ_}
-use lib.Ieee.{Float, nan, inf, fin, binary64, div, isNan, ofBits}
-use lib.Ieee.Bits.{nanBits-above, nanBits-is}
 use mir.Syntax.{w64}
 use mir.Val.{SFits, toZ, ofZ}
 use mir.ValLaws.{toZ-ofZ, toZ-pos}
 use borrow.Author.Tests.{lt-ltb, le-ltb}
 use Rattle.ieee.proofs.Integers.{less-parts, same-int}
-use Rattle.ieee.proofs.Tools.{not-both}
 use Rattle.model.specs.MapFile.{badFlag, bigEndian, entryBytes, int32}
-
--- ---- a pattern above infinity's is the NaN
-nan-is : (x : Float) → isNan x ≡ true → x ≡ nan
-unfolding isNan
-nan-is nan h = refl
-nan-is (inf s) h = not-both h refl
-nan-is (fin s m e) h = not-both h refl
-
-pub quotient : div binary64 (ofBits binary64 0) (ofBits binary64 0) ≡ nan
-unfolding div ofBits
-quotient = refl
-
-pub nan-pattern : (n : ℕ) → 2047 * 2 ^ 52 < n % 2 ^ 63 → nan ≡ ofBits binary64 n
-nan-pattern n h = sym (nan-is (ofBits binary64 n) (sym (nanBits-is binary64 n) ∙ nanBits-above binary64 n ∙ lt-ltb (2047 * 2 ^ 52) (n % 2 ^ 63) h))
 
 -- ---- eight bytes, of which i were read to v
 pub record Held (b : List ℕ) (v i : ℕ) : Type 0 where

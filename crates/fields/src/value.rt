@@ -1,7 +1,7 @@
 // What a field's value says: a float's bits, or a batch of entries.
+use ieee::bits::float_of;
 ghost use mathlib.Core.Path.{_≡_};
 ghost use Prim.Native.Nat.{_+_, _/_, _<_, _≤_};
-ghost use lib.Ieee.{binary64, ofBits};
 ghost use lib.ListN.{drop, length, take};
 ghost use Rattle.model.specs.MapFile.{badFlag, entryBytes, float64, int32};
 ghost use Rattle.fields.specs.Fields.{Numbers};
@@ -11,16 +11,6 @@ pub(crate) fn wide(b: u8) -> u64
     ensures { λ r. ⌜ (r ≡ b) × (r < 256) ⌝ }
 {
     b as u64
-}
-
-// Rattle makes no float of a NaN's pattern, so each stands for the NaN that a division gives.
-fn float_of(pattern: u64) -> f64
-    ensures { λ r. ⌜ r ≡ ofBits binary64 pattern ⌝ }
-{
-    if pattern % 9223372036854775808 > 9218868437227405312 {
-        return 0.0 / 0.0;
-    }
-    f64::from_bits(pattern)
 }
 
 // The float of the first 8 bytes, big-endian.

@@ -1,3 +1,2 @@
--- What the contracts of crate `floor` cite.
-pub mod Batches
+-- What the contracts of crate `floor`, and of those above it, cite.
 pub mod Floor

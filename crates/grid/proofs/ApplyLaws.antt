@@ -17,7 +17,7 @@ use Rattle.table.specs.Tables.{All}
 use Rattle.table.proofs.AllLaws.{all-map}
 use Rattle.table.proofs.ListedLaws.{keys-length, listed-cells, listed-numbers}
 use Rattle.corner.specs.Changes.{Inner, Turned, numbered}
-use Rattle.floor.specs.Batches.{flags}
+use Rattle.limits.specs.Batches.{flags}
 use Rattle.grid.specs.Change.{Applying, Done}
 use Rattle.floor.specs.declared.floor.Floor.{Floor}
 use Rattle.grid.proofs.BatchLaws.{Settled, settled, batch-length}

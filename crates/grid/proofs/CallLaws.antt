@@ -12,7 +12,7 @@ use Rattle.model.specs.Limits.{maxCells}
 use Rattle.model.specs.Map.{toBatch}
 use Rattle.model.specs.Maps.{AscL}
 use Rattle.model.specs.Refusal.{unsorted, outside}
-use Rattle.floor.specs.Batches.{entries}
+use Rattle.limits.specs.Batches.{entries}
 use Rattle.grid.specs.Change.{Applying, Changing, Done, Lent, refuseChange, refusedWith, shortFor}
 use Rattle.floor.specs.Floor.{Holds}
 use Rattle.grid.specs.declared.change.Changed.{Changed}

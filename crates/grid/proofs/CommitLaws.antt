@@ -14,8 +14,8 @@ use Rattle.model.proofs.BatchLaws.{cells-order}
 use Rattle.table.specs.Listed.{values}
 use Rattle.table.specs.Tables.{Table, pad}
 use Rattle.table.proofs.TableLaws.{pad-length, pad-table, pad-take}
-use Rattle.floor.specs.Batches.{flags}
 use Rattle.floor.specs.Floor.{Holds}
+use Rattle.limits.specs.Batches.{flags}
 use Rattle.grid.proofs.BatchLaws.{Settled, settled}
 use Rattle.floor.proofs.FloorLaws.{behind}
 

@@ -8,7 +8,7 @@ use lib.ListN.{length}
 use Rattle.model.specs.Batch.{cellsAfter}
 use Rattle.model.specs.Limits.{maxCells}
 use Rattle.model.specs.Map.{toBatch}
-use Rattle.floor.specs.Batches.{entries}
+use Rattle.limits.specs.Batches.{entries}
 use Rattle.grid.specs.Change.{Changing, Done, Lent, refuseChange, shortFor}
 use Rattle.floor.specs.Floor.{Holds}
 use Rattle.grid.specs.declared.change.Changed.{Changed}

@@ -12,7 +12,7 @@ use Rattle.model.specs.Batch.{Batch}
 use Rattle.model.specs.Maps.{keys}
 use Rattle.table.specs.Listed.{Listed, values}
 use Rattle.table.proofs.ListedLaws.{keys-length, values-length}
-use Rattle.floor.specs.Batches.{flags}
+use Rattle.limits.specs.Batches.{flags}
 
 -- n of w are written, and r is left
 pub record Part (w r : List (ℕ × ℕ)) (a b : List ℕ) (n : ℕ) (a′ b′ : List ℕ) : Type 0 where

@@ -11,8 +11,8 @@ use Rattle.model.specs.Cell.{key}
 use Rattle.model.specs.Map.{toBatch}
 use Rattle.model.specs.Maps.{Asc, AscL, has, sift}
 use Rattle.table.specs.Listed.{Listed}
-use Rattle.floor.specs.Batches.{alters, entries, flags, isFull}
-use Rattle.floor.proofs.EntryLaws.{item, entries-cons, entries-end}
+use Rattle.limits.specs.Batches.{alters, entries, flags, isFull}
+use Rattle.limits.proofs.EntryLaws.{item, entries-cons, entries-end}
 use Rattle.grid.proofs.ListedLaws.{Part, part-start, part-next, part-end}
 use Rattle.grid.proofs.TurnLaws.{cells-count, confirmed-picked, fills, frees, one-more, picked}
 

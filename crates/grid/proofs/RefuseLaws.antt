@@ -10,7 +10,7 @@ use lib.Ieee.{Float}
 use borrow.Author.Tests.{lt-ltb, le-ltb, ltb-false}
 use Rattle.model.specs.Map.{Entry}
 use Rattle.model.specs.Refusal.{firstOf, verdict, short, badSize, unsorted, outside}
-use Rattle.floor.specs.Batches.{refuseBatch}
+use Rattle.limits.specs.Batches.{refuseBatch}
 use Rattle.grid.specs.Change.{refuseChange, shortOf}
 
 pub apart : {k : ℕ} → suc k ≡ 0 → ⊥

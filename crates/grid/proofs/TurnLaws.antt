@@ -11,7 +11,7 @@ use Rattle.model.specs.Maps.{Asc, AscL, has, sift}
 use Rattle.model.proofs.BatchLaws.{write-other}
 use Rattle.model.proofs.OrderLaws.{ascL-add, ascL-cut}
 use Rattle.table.proofs.LookLaws.{absent-length, has-absent, has-there, there-length}
-use Rattle.floor.specs.Batches.{alters}
+use Rattle.limits.specs.Batches.{alters}
 
 pub alters-full : (t : Bool) → not t ≡ alters t true
 alters-full true = refl

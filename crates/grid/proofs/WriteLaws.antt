@@ -16,7 +16,7 @@ use Rattle.model.proofs.OrderLaws.{ascL-add, ascL-cut}
 use Rattle.table.specs.Listed.{values}
 use Rattle.table.specs.Tables.{Changed, Table, added, pad}
 use Rattle.table.proofs.TableLaws.{changed-keys, insert-table, remove-table, table-pad}
-use Rattle.floor.specs.Batches.{Written, flags, writes}
+use Rattle.limits.specs.Batches.{Written, flags, writes}
 use Rattle.table.proofs.ListedLaws.{keys-length}
 use Rattle.grid.proofs.ListedLaws.{flags-at, flags-length, keys-at}
 use Rattle.grid.proofs.SetLaws.{add-grows, cut-add}

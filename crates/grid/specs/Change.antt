@@ -15,8 +15,8 @@ use Rattle.model.specs.Refusal.{verdict, short, badSize, unsorted, outside}
 use Rattle.corner.specs.Changes.{numbered}
 use Rattle.table.specs.Listed.{Listed}
 use Rattle.table.specs.Tables.{pad}
-use Rattle.floor.specs.Batches.{entries, flags}
 use Rattle.floor.specs.Floor.{Holds}
+use Rattle.limits.specs.Batches.{entries, flags}
 use Rattle.grid.specs.declared.change.Changed.{Changed}
 use Rattle.floor.specs.declared.floor.Floor.{Floor}
 

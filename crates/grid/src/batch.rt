@@ -17,7 +17,7 @@ ghost use Rattle.model.specs.Maps.{Asc, AscL, has, keys};
 ghost use Rattle.model.specs.Refusal.{outside, unsorted};
 ghost use Rattle.table.specs.Listed.{Listed, Unlisted, values};
 ghost use Rattle.table.specs.Tables.{Table, pad};
-ghost use Rattle.floor.specs.Batches.{Written, alters, entries, flags, isFull};
+ghost use Rattle.limits.specs.Batches.{Written, alters, entries, flags, isFull};
 
 // The key of the entry at i.
 fn key_at(batch: &[i64], i: usize) -> u64

@@ -4,15 +4,15 @@ use crate::batch::confirm;
 use crate::batch::count_after;
 use corners::changes::corner_changes;
 use floor::floor::Floor;
-use floor::judge::bad_size;
-use floor::judge::refuse_batch;
+use limits::judge::bad_size;
+use limits::judge::refuse_batch;
 ghost use mathlib.Core.List.{List};
 ghost use mathlib.Core.Path.{_≡_};
 ghost use Prim.Native.Nat.{ℕ, _≤_};
 ghost use lib.Dec.{ltb};
 ghost use lib.ListN.{length};
 ghost use Rattle.model.specs.Limits.{maxCells};
-ghost use Rattle.floor.specs.Batches.{entries};
+ghost use Rattle.limits.specs.Batches.{entries};
 ghost use Rattle.grid.specs.Change.{Applying, Changing, Done, refuseChange, refusedWith, shortOf};
 
 // 0 with how many changes were confirmed, how many corners altered, and the floor afterwards; or the refusal's

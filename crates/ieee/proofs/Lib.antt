@@ -14,6 +14,7 @@ pub mod Integers
 pub mod Monotone
 pub mod MonotoneProduct
 pub mod MonotoneSum
+pub mod NanPatterns
 pub mod Patterns
 pub mod Picks
 pub mod RootBits
@@ -29,6 +30,7 @@ pub mod Signs
 pub mod Squares
 pub mod Thresholds
 pub mod Tools
+pub mod Unbiased
 pub mod WholeOrder
 pub mod YardCells
 pub mod YardLaws

@@ -1,5 +1,6 @@
 // Lists the map file on standard input to standard output. A file of any length is read through a buffer of fixed length, field by field. The listing is written
 // once it is whole: where the input cannot be read to its end, nothing is.
+use held::map::Map;
 use libc::STDERR_FILENO;
 use libc::STDOUT_FILENO;
 use mapfile::field::one_field;
@@ -7,7 +8,6 @@ use mapfile::reader::Reading;
 use mapfile::reader::begin;
 use print::refusal::put_refusal;
 use report::map::list_map;
-use visibility::map::Map;
 use window::input::Window;
 use window::input::refill;
 

@@ -5,11 +5,11 @@ use edges::pairs::open_pairs;
 use edges::points::all_points;
 use edges::points::free_points;
 use floor::cell::Cell;
+use held::map::Map;
 use occupied::cells::Told;
 use occupied::cells::corner_cells;
 use occupied::cells::is_occupied;
 use occupied::cells::occupied_cells;
-use visibility::map::Map;
 ghost use Rattle.edges.specs.Lists.{AllPairs, AllPoints, FreePoints, OpenPairs};
 ghost use Rattle.occupied.specs.Lists.{CornerCells, IsOccupied, OccupiedCells};
 

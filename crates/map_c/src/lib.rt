@@ -1,8 +1,8 @@
 // A map under C names: opening, batches, changes of the radius. Each function is the call of that name, with its contract.
+use held::map::Map;
+use held::map::Outcome;
 use visibility::change::Changed;
 use visibility::change::change_cells;
-use visibility::map::Map;
-use visibility::map::Outcome;
 use visibility::open::open;
 use visibility::radius::change_radius;
 ghost use Rattle.visibility.specs.Change.{Changing};

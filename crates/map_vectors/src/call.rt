@@ -7,6 +7,8 @@
 // r  radius: the radius is changed: refusal, cells, points
 //
 // Sizes and radii are bit patterns of f64, coordinates are two's complements.
+use held::map::Map;
+use held::map::Outcome;
 use patterns::float_at;
 use patterns::integer_at;
 use vectors::answer;
@@ -14,8 +16,6 @@ use vectors::change::enter;
 use vectors::change::write_changes;
 use visibility::change::Changed;
 use visibility::change::change_cells;
-use visibility::map::Map;
-use visibility::map::Outcome;
 use visibility::open::open;
 use visibility::radius::change_radius;
 

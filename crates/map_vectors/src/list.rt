@@ -12,10 +12,10 @@ use edges::pairs::all_pairs;
 use edges::pairs::open_pairs;
 use edges::points::all_points;
 use edges::points::free_points;
+use held::map::Map;
 use occupied::cells::corner_cells;
 use occupied::cells::occupied_cells;
 use vectors::change::write_changes;
-use visibility::map::Map;
 
 // Writes the first `count` pairs.
 fn write_pairs(lesser: &[u64; 2016], greater: &[u64; 2016], blocks: &[u64; 2016], count: usize) {

@@ -7,6 +7,7 @@
 // Coordinates of points, widths and radii are bit patterns of f64, coordinates of cells are two's complements.
 use crate::write::answer_count;
 use crate::write::write_cells;
+use held::map::Map;
 use occupied::ask::ask;
 use occupied::cells::is_occupied;
 use question_vectors::answer_place;
@@ -15,7 +16,6 @@ use question_vectors::question_at;
 use vectors::answer;
 use views::neighbours::neighbours;
 use views::visibility_from::visibility_from;
-use visibility::map::Map;
 
 pub(crate) fn look(line: &[u8], map: Map, cells: &[u64; 1024]) {
     let t = is_occupied(map, cells, cell_at(line));

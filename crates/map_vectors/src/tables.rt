@@ -4,8 +4,8 @@
 //    in the table differ. After a refused call they are those of the map before it.
 use crate::write::write_pair;
 use crate::write::write_points;
+use held::map::Map;
 use vectors::answer;
-use visibility::map::Map;
 ghost use Prim.Native.Nat.{_<_, _≤_};
 
 // A pair as the lesser point's row has it, and as the greater's has it, 0 for no pair.

@@ -13,14 +13,14 @@ use borrow.Author.Tests.{ltb-false, ne-eqb}
 use Rattle.answers.proofs.PassedLaws.{or-parts}
 use Rattle.fields.specs.Fields.{Numbers, numbersOf}
 use Rattle.fields.specs.declared.head.Expected.{Expected}
-use Rattle.floor.specs.Batches.{entries, isFull}
 use Rattle.ieee.proofs.Tools.{lt-or-ge}
+use Rattle.limits.specs.Batches.{entries, isFull}
 use Rattle.model.specs.Map as map
 use Rattle.model.specs.MapFile as model
 use Rattle.model.specs.MapFile.{badFlag, entryBytes, takeBatch}
 use Rattle.model.specs.Refusal.{judge, refusal, short, step, unless}
 use Rattle.visibility.specs.Change.{Changing, Lent, lentNeeds}
-use Rattle.visibility.specs.Holds.{Holds, Tables, needs}
+use Rattle.held.specs.Holds.{Holds, Tables, needs}
 use Rattle.visibility.specs.declared.change.Changed.{Changed}
 use Rattle.mapfile.specs.Reads.{HoldsReader, Took, movedOn}
 use Rattle.mapfile.specs.declared.reader.Reader.{Reader}

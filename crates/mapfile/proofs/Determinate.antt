@@ -12,8 +12,8 @@ use Rattle.model.specs.Map as map
 use Rattle.model.specs.MapFile as model
 use Rattle.model.specs.Refusal.{short}
 use Rattle.visibility.proofs.Determinate.{holds-one}
-use Rattle.visibility.specs.Holds.{Holds, Tables, needs}
-use Rattle.visibility.specs.declared.map.Map.{Map}
+use Rattle.held.specs.Holds.{Holds, Tables, needs}
+use Rattle.held.specs.declared.map.Map.{Map}
 use Rattle.mapfile.specs.Reads.{FieldRead, HoldsMap, HoldsReader, Left, LeftAt, Says}
 use Rattle.mapfile.specs.declared.reader.Reader.{Reader}
 use Rattle.mapfile.specs.declared.reader.Reading.{Reading}

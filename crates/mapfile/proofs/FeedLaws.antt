@@ -17,10 +17,10 @@ use Rattle.model.specs.Map as map
 use Rattle.model.specs.MapFile as model
 use Rattle.model.specs.MapFile.{entries, entryBytes, float64, oneField, readFile, stopped, takeBatch, takeEnd, takeRadius, takeSize, taken}
 use Rattle.model.specs.Refusal.{badRadius, badSize, nothing, opened, refusal, short, step}
-use Rattle.visibility.proofs.LayerLaws.{layer-rooms}
-use Rattle.visibility.proofs.PadLaws.{padded-room}
-use Rattle.visibility.specs.Holds.{Holds, Tables, needs}
-use Rattle.visibility.specs.declared.map.Map.{Map}
+use Rattle.held.proofs.LayerLaws.{layer-rooms}
+use Rattle.held.proofs.PadLaws.{padded-room}
+use Rattle.held.specs.Holds.{Holds, Tables, needs}
+use Rattle.held.specs.declared.map.Map.{Map}
 use Rattle.mapfile.specs.Feeds.{EndsAs, Feeds, fill, on, stop-done, stop-refused}
 use Rattle.mapfile.specs.Reads.{HoldsMap, HoldsReader, LeftAt, begun}
 use Rattle.mapfile.specs.declared.reader.Reader.{Reader}

@@ -15,7 +15,7 @@ use Rattle.fields.specs.declared.head.Head.{Head}
 use Rattle.model.specs.MapFile as model
 use Rattle.model.specs.MapFile.{badFlag, entryBytes, oneField, stopped, takeBatch, takeEnd, taken}
 use Rattle.model.specs.Refusal.{short}
-use Rattle.visibility.specs.Holds.{Tables, needs}
+use Rattle.held.specs.Holds.{Tables, needs}
 use Rattle.mapfile.specs.Reads.{FieldRead, HoldsReader, Left, Says, Took, stoppedAs, stoppedAt}
 use Rattle.mapfile.specs.declared.reader.Reader.{Reader}
 use Rattle.mapfile.specs.declared.reader.Reading.{Reading}

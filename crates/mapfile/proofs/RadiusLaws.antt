@@ -13,9 +13,9 @@ use Rattle.model.specs.MapFile as model
 use Rattle.model.specs.MapFile.{float64, takeRadius}
 use Rattle.model.specs.Refusal.{badRadius, badSize, nothing, opened, refuseOpen, short, unless}
 use Rattle.visibility.proofs.OpenLaws.{open-passes, open-radius}
-use Rattle.visibility.specs.Holds.{Holds, Tables, needs}
+use Rattle.held.specs.Holds.{Holds, Tables, needs}
 use Rattle.visibility.specs.Open.{Opening}
-use Rattle.visibility.specs.declared.map.Outcome.{Outcome}
+use Rattle.held.specs.declared.map.Outcome.{Outcome}
 use Rattle.mapfile.specs.Reads.{HoldsReader, Took, movedOn}
 use Rattle.mapfile.specs.declared.reader.Reader.{Reader}
 use Rattle.mapfile.specs.declared.reader.Reading.{Reading}

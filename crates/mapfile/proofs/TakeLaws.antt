@@ -13,8 +13,8 @@ use Rattle.model.specs.Map as map
 use Rattle.model.specs.MapFile as model
 use Rattle.model.specs.MapFile.{float64, takeEnd, takeSize}
 use Rattle.model.specs.Refusal.{badSize, nothing, short}
-use Rattle.visibility.specs.Holds.{Tables, needs}
-use Rattle.visibility.specs.declared.map.Map.{Map}
+use Rattle.held.specs.Holds.{Tables, needs}
+use Rattle.held.specs.declared.map.Map.{Map}
 use Rattle.mapfile.specs.Reads.{HoldsMap, HoldsReader, LeftAt, Took, movedOn, sizeTaken}
 use Rattle.mapfile.specs.declared.reader.Reader.{Reader}
 use Rattle.mapfile.specs.declared.reader.Reading.{Reading}

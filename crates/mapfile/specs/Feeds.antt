@@ -4,8 +4,8 @@ use mathlib.Core.List.{List, [], _++_}
 use lib.ListN.{drop}
 use Rattle.fields.specs.Windows.{Wide}
 use Rattle.model.specs.MapFile as model
-use Rattle.visibility.specs.Holds.{Tables}
-use Rattle.visibility.specs.declared.map.Map.{Map}
+use Rattle.held.specs.Holds.{Tables}
+use Rattle.held.specs.declared.map.Map.{Map}
 use Rattle.mapfile.specs.Reads.{FieldRead, Says}
 use Rattle.mapfile.specs.declared.reader.Reader.{Reader}
 use Rattle.mapfile.specs.declared.reader.Reading.{Reading}

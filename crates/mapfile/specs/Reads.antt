@@ -13,9 +13,9 @@ use Rattle.model.specs.Map as map
 use Rattle.model.specs.MapFile as model
 use Rattle.model.specs.MapFile.{badFlag, entryBytes, float64, oneField, takeBatch, takeRadius}
 use Rattle.model.specs.Refusal.{badSize, short}
-use Rattle.visibility.specs.Holds.{Behind, Holds, Tables, needs}
+use Rattle.held.specs.Holds.{Behind, Holds, Tables, needs}
 use Rattle.visibility.specs.Open.{noMap}
-use Rattle.visibility.specs.declared.map.Map.{Map}
+use Rattle.held.specs.declared.map.Map.{Map}
 use Rattle.mapfile.specs.declared.reader.Reader.{Reader}
 use Rattle.mapfile.specs.declared.reader.Reading.{Reading}
 

@@ -7,7 +7,7 @@ use fields::head::Expected;
 use fields::head::read_head;
 use fields::value::float_at;
 use fields::value::numbers_of;
-use floor::judge::bad_size;
+use limits::judge::bad_size;
 use visibility::change::change_cells;
 use visibility::open::open;
 ghost use mathlib.Core.Path.{_≡_};

@@ -1,6 +1,6 @@
 // Where the reading of a map file stands.
 use fields::head::Expected;
-use visibility::map::Map;
+use held::map::Map;
 ghost use mathlib.Core.Path.{_≡_};
 ghost use Rattle.mapfile.specs.Reads.{begun, movedOn};
 

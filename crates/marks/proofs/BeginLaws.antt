@@ -21,14 +21,10 @@ use Rattle.model.proofs.OrderLaws.{asc-get, asc-keys}
 use Rattle.table.specs.Tables.{rank, stands}
 use Rattle.table.proofs.LookLaws.{stands-has}
 use Rattle.marks.specs.declared.mood.Mood.{Mood}
-use Rattle.marks.specs.Marked.{statusesOf}
+use Rattle.held.specs.Layers.{statusesOf}
 use Rattle.marks.specs.Standing.{begun, mood, word, words}
 use Rattle.marks.proofs.MoodLaws.{number-small}
 use Rattle.marks.proofs.WordsLaws.{words-at, words-length}
-
-pub statuses-length : (ps : Points) → length (statusesOf ps) ≡ length ps
-statuses-length [] = refl
-statuses-length (e ∷ ps) = ap suc (statuses-length ps)
 
 -- the status at a point's place is the point's
 status-at : (lo k : ℕ) (ps : Points) → Asc lo ps → has k (keys ps) ≡ true → getD (statusesOf ps) (rank k (keys ps)) 0 ≡ number (bitsIn ps k)

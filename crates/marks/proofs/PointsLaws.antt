@@ -19,9 +19,10 @@ use Rattle.table.specs.Tables.{All, Table, pad, rank}
 use Rattle.table.proofs.ListedLaws.{keys-length, values-length}
 use Rattle.table.proofs.RankLaws.{rank-le}
 use Rattle.table.proofs.TableLaws.{pad-length, pad-table, pad-take}
-use Rattle.marks.specs.Marked.{Bordered, Marking, ended, ending, statusesOf}
+use Rattle.marks.specs.Marked.{Bordered, Marking, ended, ending}
+use Rattle.held.specs.Layers.{statusesOf}
 use Rattle.marks.specs.Standing.{Standing, begun, standing, words}
-use Rattle.marks.proofs.BeginLaws.{statuses-length}
+use Rattle.held.proofs.LayerLaws.{statuses-length}
 
 numbered-length : (cs : List (ℕ × Bits)) → length (numbered cs) ≡ length cs
 numbered-length [] = refl

@@ -8,22 +8,18 @@ use lib.ListN.{length}
 use Rattle.corner.specs.Changes.{numbered}
 use Rattle.model.specs.Cell.{Dir, SW, SE, NW, NE, W}
 use Rattle.model.specs.ClosedForm.{stand}
-use Rattle.model.specs.Corner.{Bits, anyBit, number}
+use Rattle.model.specs.Corner.{Bits, anyBit}
 use Rattle.model.specs.Layer.{Points, marks}
 use Rattle.model.specs.Limits.{maxPoints, maxShift, needCorners}
 use Rattle.model.specs.Maps.{Asc, keys}
 use Rattle.table.specs.Listed.{values}
 use Rattle.table.specs.Tables.{All}
+use Rattle.held.specs.Layers.{statusesOf}
 use Rattle.marks.specs.Standing.{Standing, begun, standing, word}
 
 -- the directions in bit order
 abbrev pub dirAt : ℕ → Dir
 dirAt d = cond (eqb d 0) SW (cond (eqb d 1) SE (cond (eqb d 2) NW NE))
-
--- statuses by the paper's numbers
-abbrev pub statusesOf : Points → List ℕ
-statusesOf [] = []
-statusesOf (e ∷ ps) = number (e .1 .bits) ∷ statusesOf ps
 
 -- 64 cells further in every direction are keys too
 abbrev pub Bordered : ℕ → Type 0

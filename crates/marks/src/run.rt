@@ -17,7 +17,8 @@ ghost use Rattle.model.specs.Layer.{Points, marks, marksOf};
 ghost use Rattle.model.specs.Maps.{Asc, AscL, keys};
 ghost use Rattle.table.specs.Listed.{values};
 ghost use Rattle.table.specs.Tables.{All};
-ghost use Rattle.marks.specs.Marked.{Bordered, statusesOf};
+ghost use Rattle.marks.specs.Marked.{Bordered};
+ghost use Rattle.held.specs.Layers.{statusesOf};
 ghost use Rattle.marks.specs.Standing.{Small, Standing, begun, mood, standing, stood, words};
 
 // What is kept of the key k before the marks.

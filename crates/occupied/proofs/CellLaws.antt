@@ -10,7 +10,7 @@ use lib.Seq.{length-take-le}
 use Rattle.answers.proofs.PassedLaws.{long-enough, passed}
 use Rattle.answers.specs.Asking.{Written, refuseMap}
 use Rattle.copy.specs.Copied.{Copied}
-use Rattle.corner.specs.Changes.{numbered}
+use Rattle.corner.specs.Changes.{Cornered, numbered}
 use Rattle.floor.proofs.FloorLaws.{holds-cells}
 use Rattle.floor.specs.Floor as floor
 use Rattle.grid.proofs.ApplyLaws.{inside-inner}
@@ -34,8 +34,7 @@ use Rattle.table.proofs.AllLaws.{all-map}
 use Rattle.table.proofs.ListedLaws.{keys-length, values-length}
 use Rattle.table.specs.Listed.{values}
 use Rattle.table.specs.Tables.{All}
-use Rattle.visibility.proofs.RebuildLaws.{Corners}
-use Rattle.visibility.specs.declared.map.Map.{Map}
+use Rattle.held.specs.declared.map.Map.{Map}
 use Rattle.occupied.specs.Lists.{Lent}
 
 -- ---- a call that is not refused: the used cells are lent, and each output has room for them
@@ -78,13 +77,13 @@ module _ (m : Map) (cells : List ℕ) where
         (k .count, w ∙ ap (λ (n : ℕ). M .cells ++ drop n out) (sym (k .count)), tt)
 
     module _ (statuses statuses′ : List ℕ) (space : maxCells ≤ length statuses) (r : ℕ) where
-      pub corners-written : Corners (take (m .cells) cells) out out′ statuses statuses′ r → (M : model.Map) → Lent m cells M
+      pub corners-written : Cornered (take (m .cells) cells) out out′ statuses statuses′ r → (M : model.Map) → Lent m cells M
           → Written M r (record { was = out; is = out′; wanted = λ M. keys (numbered (corners M)) } ∷ record { was = statuses; is = statuses′; wanted = λ M. values (numbered (corners M)) } ∷ [])
       unfolding corners
       corners-written f M h =
           let k = held M h in
           let l = numbered (cornerCells (M .cells)) in
-          let w = subst (λ (u : List ℕ). Corners u out out′ statuses statuses′ r) (same-cells M h) f (k .order) (all-map (M .cells) inside-inner (k .inside)) (omega (arith, k .room, room)) (omega (arith, k .room, space)) in (
+          let w = subst (λ (u : List ℕ). Cornered u out out′ statuses statuses′ r) (same-cells M h) f (k .order) (all-map (M .cells) inside-inner (k .inside)) (omega (arith, k .room, room)) (omega (arith, k .room, space)) in (
             w .count ∙ sym (keys-length l),
             w .cells ∙ ap (λ (n : ℕ). keys l ++ drop n out) (sym (w .count)),
             (w .count ∙ sym (values-length l), w .numbers ∙ ap (λ (n : ℕ). values l ++ drop n statuses) (sym (w .count)), tt),

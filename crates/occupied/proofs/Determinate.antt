@@ -15,7 +15,7 @@ use Rattle.question.specs.Question.{asked}
 use Rattle.question.specs.declared.search.Question.{Question}
 use Rattle.questions.proofs.Determinate.{place-one}
 use Rattle.questions.specs.declared.ask.Answer.{Answer}
-use Rattle.visibility.specs.declared.map.Map.{Map}
+use Rattle.held.specs.declared.map.Map.{Map}
 use Rattle.occupied.specs.Found.{Asking, Telling}
 use Rattle.occupied.specs.declared.cells.Told.{Told}
 use Rattle.occupied.specs.Lists.{Asks, CornerCells, IsOccupied, Lent, OccupiedCells, due}

@@ -17,7 +17,7 @@ use Rattle.question.specs.Question.{asked}
 use Rattle.question.specs.declared.search.Question.{Question}
 use Rattle.questions.specs.declared.ask.Answer.{Answer}
 use Rattle.table.specs.Listed.{values}
-use Rattle.visibility.specs.declared.map.Map.{Map}
+use Rattle.held.specs.declared.map.Map.{Map}
 use Rattle.occupied.specs.Found.{Asking, Telling}
 use Rattle.occupied.specs.declared.cells.Told.{Told}
 

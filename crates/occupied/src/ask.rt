@@ -1,13 +1,13 @@
 // The question of four shapes, put to a map.
 use answers::judge::lacks;
 use answers::judge::refuse;
+use held::map::Map;
 use question::search::Question;
 use question::search::search;
 use questions::ask::Answer;
 use questions::ask::Place;
 use questions::ask::place_of;
 use questions::judge::bad_question;
-use visibility::map::Map;
 ghost use Rattle.occupied.specs.Lists.{Asks};
 
 // The first occupied cell of the map, by x, then y, that qualifies.

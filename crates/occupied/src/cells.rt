@@ -5,7 +5,7 @@ use answers::judge::refuse;
 use answers::judge::refused;
 use copy::copy::copy;
 use floor::cell::Cell;
-use visibility::map::Map;
+use held::map::Map;
 ghost use Rattle.occupied.specs.Lists.{CornerCells, IsOccupied, OccupiedCells};
 
 // 0 and the answer; or the refusal's number, and no.

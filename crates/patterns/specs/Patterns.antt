@@ -5,7 +5,7 @@ use mathlib.Core.List.{List, [], _∷_}
 use lib.Dec.{leb, ltb}
 use lib.ListN.{length, take, drop}
 use lib.IntN.{ℤ, pos, negsuc}
-use lib.Ieee.{Float, nan, binary64, isNan, ofBits, toBits}
+use lib.Ieee.{Float, binary64, isNan, ofBits, toBits}
 
 -- a hexadecimal digit of lower case; any other byte counts as 0
 unfoldable pub digitOf : ℕ → ℕ
@@ -20,9 +20,9 @@ hex v (b ∷ l) = hex (v % 2 ^ 60 * 16 + digitOf b) l
 unfoldable pub patternAt : List ℕ → ℕ → ℕ
 patternAt l from = cond (leb (from + 16) (length l)) (hex 0 (take 16 (drop from l))) 0
 
--- every pattern of a NaN stands for the one NaN
-unfoldable pub floatOf : ℕ → Float
-floatOf n = cond (ltb (2047 * 2 ^ 52) (n % 2 ^ 63)) nan (ofBits binary64 n)
+-- the float of a pattern
+abbrev pub floatOf : ℕ → Float
+floatOf n = ofBits binary64 n
 
 unfoldable pub patternOf : Float → ℕ
 patternOf x = cond (isNan x) 9221120237041090560 (toBits binary64 x)

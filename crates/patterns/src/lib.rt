@@ -1,4 +1,5 @@
 // What the words of a line stand for: sixteen hexadecimal digits are the pattern of a float, or the two's complement of a number.
+use ieee::bits::float_of;
 ghost use mathlib.Core.Path.{_≡_};
 ghost use Prim.Native.Nat.{_<_};
 ghost use Rattle.patterns.specs.Patterns.{digitOf, patternAt, floatOf, patternOf, signedOf, integerOf};
@@ -37,16 +38,6 @@ pub fn pattern_at(line: &[u8], from: usize) -> u64
         i += 1;
     }
     v
-}
-
-// Rattle makes no float of a NaN's pattern, so each stands for the NaN that a division gives.
-fn float_of(pattern: u64) -> f64
-    ensures { λ r. ⌜ r ≡ floatOf pattern ⌝ }
-{
-    if pattern % 9223372036854775808 > 9218868437227405312 {
-        return 0.0 / 0.0;
-    }
-    f64::from_bits(pattern)
 }
 
 pub fn float_at(line: &[u8], from: usize) -> f64

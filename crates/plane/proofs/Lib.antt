@@ -1,3 +1,2 @@
 -- The laws of crate `plane`.
-pub mod CornerLaws
 pub mod Determinate

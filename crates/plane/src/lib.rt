@@ -1,3 +1,2 @@
-// Points and vectors of floats, and where a cell lies among them: what segments and the grid stand on.
-pub mod cell;
+// Points and vectors of floats: what segments and the grid stand on.
 pub mod point;

@@ -2,7 +2,7 @@
 use crate::judge::bad_question;
 use floor::cell::Cell;
 use floor::floor::Floor;
-use floor::judge::bad_size;
+use limits::judge::bad_size;
 use question::search::Found;
 use question::search::Question;
 use question::search::search;

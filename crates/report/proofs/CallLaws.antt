@@ -9,10 +9,10 @@ use Rattle.answers.proofs.RefuseLaws.{due-none}
 use Rattle.answers.specs.Asking.{refuseMap}
 use Rattle.model.specs.Map as model
 use Rattle.model.specs.Refusal.{badRadius, badSize, short}
-use Rattle.visibility.proofs.LayerLaws.{layer-few}
-use Rattle.visibility.proofs.OpenLaws.{Enough}
-use Rattle.visibility.specs.Holds.{Holds, Tables}
-use Rattle.visibility.specs.declared.map.Map.{Map}
+use Rattle.held.proofs.LayerLaws.{layer-few}
+use Rattle.held.proofs.RoomLaws.{Enough}
+use Rattle.held.specs.Holds.{Holds, Tables}
+use Rattle.held.specs.declared.map.Map.{Map}
 
 pub not-short : (l : List (ℕ × ℕ)) → Enough l → short l ≡ false
 unfolding short

@@ -6,15 +6,13 @@ use mathlib.Core.List.{List, [], _∷_, _++_}
 use mathlib.Core.Option.{Option, none, some}
 use lib.ListN.{length}
 use Rattle.edges.specs.Columns.{greaters, lessers, pairBlocks}
-use Rattle.marks.specs.Marked.{statusesOf}
+use Rattle.held.specs.Layers.{blocksOf, statusesOf}
 use Rattle.model.specs.Good.{Good}
 use Rattle.model.specs.Layer.{Edges, Layer, Pair, Points, edge, pairOf, pairs, pairsFrom}
 use Rattle.model.specs.Listing.{pairLines, pointLines}
 use Rattle.model.specs.Maps.{keys}
 use Rattle.print.specs.Printed.{blockOf, pairRows, pointRows}
-use Rattle.sight.specs.Blocked.{AllNamed, codes}
-use Rattle.sight.specs.Codes.{Named, NamedPair, blockCode}
-use Rattle.visibility.specs.Layers.{blocksOf}
+use Rattle.held.specs.Codes.{AllNamed, Named, NamedPair, blockCode, codes}
 
 -- a blocker is told by its code
 coded : (o : Option ℕ) → Named o → blockOf (blockCode o) ≡ o

@@ -14,8 +14,8 @@ use Rattle.model.specs.Listing.{listed}
 use Rattle.model.specs.Map as model
 use Rattle.model.specs.MapFile.{done}
 use Rattle.model.specs.Refusal.{short}
-use Rattle.sight.specs.Paired.{pairPlaces}
-use Rattle.visibility.specs.declared.map.Map.{Map}
+use Rattle.held.specs.Pairs.{pairPlaces}
+use Rattle.held.specs.declared.map.Map.{Map}
 use Rattle.report.specs.Reported.{Listed, needListing}
 
 -- ---- `list_map`, of a map that is held, or that is refused whatever the tables hold

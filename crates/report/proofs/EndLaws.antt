@@ -14,8 +14,8 @@ use Rattle.model.specs.Map as model
 use Rattle.model.specs.MapFile.{Reading, done, readFile, refused}
 use Rattle.model.specs.Refusal.{short}
 use Rattle.print.specs.Printed.{Printed, lineRoom}
-use Rattle.visibility.proofs.OpenLaws.{Enough}
-use Rattle.visibility.specs.Holds.{Holds, Tables}
+use Rattle.held.proofs.RoomLaws.{Enough}
+use Rattle.held.specs.Holds.{Holds, Tables}
 use Rattle.report.specs.Reported.{EndedAs, Listed}
 use Rattle.report.specs.declared.file.Ended.{Ended}
 use Rattle.report.proofs.CallLaws.{call-accepted, held-accepted}

@@ -13,8 +13,8 @@ use Rattle.mapfile.specs.declared.reader.Reading.{Reading}
 use Rattle.model.specs.MapFile as model
 use Rattle.model.specs.MapFile.{oneField, readFile}
 use Rattle.model.specs.Refusal.{short}
-use Rattle.visibility.specs.Holds.{Tables, needs}
-use Rattle.visibility.specs.declared.map.Map.{Map}
+use Rattle.held.specs.Holds.{Tables, needs}
+use Rattle.held.specs.declared.map.Map.{Map}
 use Rattle.report.specs.Reported.{EndedAs}
 use Rattle.report.proofs.ReadingLaws.{Fit, Goes, field-goes}
 

@@ -12,8 +12,8 @@ use borrow.Author.Tests.{le-leb}
 use Rattle.answers.specs.Asking.{Written}
 use Rattle.edges.specs.Columns.{greaters, lessers, pairBlocks}
 use Rattle.floor.proofs.FloorLaws.{holds-cells}
-use Rattle.marks.proofs.BeginLaws.{statuses-length}
-use Rattle.marks.specs.Marked.{statusesOf}
+use Rattle.held.proofs.LayerLaws.{codes-count, layer-blocks, layer-keys, layer-statuses, statuses-length}
+use Rattle.held.specs.Layers.{blocksOf, statusesOf}
 use Rattle.model.specs.Answers.{allPairs, corners, openPairs}
 use Rattle.model.specs.Answers as asked
 use Rattle.model.specs.Blocks.{blockCount}
@@ -26,13 +26,11 @@ use Rattle.print.proofs.PrintLaws.{has-room}
 use Rattle.print.proofs.PutLaws.{put-long, put-then}
 use Rattle.print.specs.Printed.{Printed, Put, firstRoom, lineRoom, pairRows, pointRows, roomFor}
 use Rattle.print.specs.declared.counts.Counts.{Counts}
-use Rattle.sight.specs.Blocked.{codes}
+use Rattle.held.specs.Codes.{codes}
 use Rattle.table.proofs.ListedLaws.{keys-length}
-use Rattle.visibility.proofs.LayerLaws.{codes-count, layer-blocks, layer-keys, layer-statuses}
-use Rattle.visibility.proofs.NamedLaws.{blocks-named}
-use Rattle.visibility.specs.Holds.{Holds, Tables}
-use Rattle.visibility.specs.Layers.{blocksOf}
-use Rattle.visibility.specs.declared.map.Map.{Map}
+use Rattle.held.proofs.NamedLaws.{blocks-named}
+use Rattle.held.specs.Holds.{Holds, Tables}
+use Rattle.held.specs.declared.map.Map.{Map}
 use Rattle.report.proofs.ColumnLaws.{lessers-length, pair-rows, pairs-told, point-rows}
 
 -- ---- counts

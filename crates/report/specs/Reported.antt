@@ -10,7 +10,7 @@ use Rattle.model.specs.Listing.{listing}
 use Rattle.model.specs.Map as model
 use Rattle.model.specs.MapFile.{Reading, done, refused}
 use Rattle.print.specs.Printed.{firstRoom, lineRoom}
-use Rattle.visibility.specs.Holds.{Holds, Tables}
+use Rattle.held.specs.Holds.{Holds, Tables}
 use Rattle.report.specs.declared.file.Ended.{Ended}
 
 -- the buffer's fixed need: room for the first line, and for as many points and pairs as there may be

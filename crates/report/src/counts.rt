@@ -1,9 +1,9 @@
 // The counts of a listing's first line.
 use blocks::count::count_blocks;
 use edges::pairs::open_pairs;
+use held::map::Map;
 use occupied::cells::corner_cells;
 use print::counts::Counts;
-use visibility::map::Map;
 ghost use mathlib.Core.Path.{_≡_};
 ghost use mathlib.Core.Bool.{false};
 ghost use Prim.Native.Nat.{_≤_};

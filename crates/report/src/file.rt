@@ -2,16 +2,16 @@
 use crate::map::list_map;
 use answers::judge::Count;
 use answers::judge::refused;
+use held::map::Map;
 use mapfile::field::one_field;
 use mapfile::reader::Reading;
 use mapfile::reader::begin;
 use print::refusal::put_refusal;
-use visibility::map::Map;
 ghost use mathlib.Core.Path.{_≡_};
 ghost use mathlib.Core.Bool.{false};
 ghost use Rattle.model.specs.MapFile.{readFile};
 ghost use Rattle.model.specs.Refusal.{short};
-ghost use Rattle.visibility.specs.Holds.{needs};
+ghost use Rattle.held.specs.Holds.{needs};
 ghost use Rattle.report.specs.Reported.{EndedAs, Listed};
 
 // 0 and the map; or the refusal's number and the field's.

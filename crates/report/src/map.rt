@@ -5,10 +5,10 @@ use answers::judge::lacks;
 use answers::judge::refuse;
 use answers::judge::refused;
 use edges::pairs::all_pairs;
+use held::map::Map;
 use print::counts::put_counts;
 use print::pairs::put_pairs;
 use print::points::put_points;
-use visibility::map::Map;
 ghost use mathlib.Core.Path.{_≡_};
 ghost use mathlib.Core.Bool.{false};
 ghost use mathlib.Core.List.{[], _∷_};
@@ -18,7 +18,7 @@ ghost use Rattle.model.specs.Limits.{maxCells, maxPoints};
 ghost use Rattle.model.specs.Listing.{listed};
 ghost use Rattle.model.specs.MapFile.{done};
 ghost use Rattle.model.specs.Refusal.{short};
-ghost use Rattle.sight.specs.Paired.{pairPlaces};
+ghost use Rattle.held.specs.Pairs.{pairPlaces};
 ghost use Rattle.report.specs.Reported.{needListing};
 
 // Writes the listing of a map: its counts, its points, its pairs. The count that is returned is that of its bytes.

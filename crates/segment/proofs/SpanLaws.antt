@@ -16,7 +16,7 @@ use Rattle.model.specs.Plane.{Pt, lowCorner}
 use Rattle.model.specs.Segment.{passesNear}
 use Rattle.segment.specs.Many.{inSpan, inSpans, Ready}
 use Rattle.segment.specs.Spans.{Small, SmallLine, Wide, IsSpan}
-use Rattle.plane.specs.Values.{edgeOf}
+use Rattle.spot.specs.Edge.{edgeOf}
 use Rattle.segment.specs.Near.{IsProximity, decided, nearBy}
 use Rattle.segment.specs.Squared.{measuredOf, squared}
 use Rattle.plane.specs.Values.{pt, vec}
@@ -26,7 +26,7 @@ use Rattle.segment.specs.declared.many.NearTest.{NearTest}
 use Rattle.segment.specs.declared.spans.Span.{Span}
 use Rattle.segment.specs.declared.measured.Measured.{Measured}
 use Rattle.segment.specs.declared.near.Proximity.{Proximity}
-use Rattle.plane.proofs.CornerLaws.{column-next}
+use Rattle.ieee.proofs.Unbiased.{column-next}
 use Rattle.segment.proofs.AsideLaws.{Within, Aside, edge-mono, edge-within, above-aside, below-aside, drift-number, small-finite, on, aside-square}
 use Rattle.segment.proofs.NearLaws.{near-is}
 

@@ -3,7 +3,7 @@
 use crate::line::LineSegment;
 use crate::measured::Measured;
 use crate::meets;
-use plane::cell::corner;
+use spot::cell::corner;
 ghost use mathlib.Core.Path.{_≡_};
 ghost use Rattle.model.specs.Segment.{passesNear};
 ghost use Rattle.segment.specs.Near.{IsProximity, nearBy};

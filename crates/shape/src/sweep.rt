@@ -2,9 +2,9 @@
 // spans, and its rows in one column.
 use crate::bounds::Bounds;
 use extent::search::SearchF64;
-use plane::cell;
 use plane::point::Point;
 use segment::line::LineSegment;
+use spot::cell;
 ghost use mathlib.Core.Path.{_≡_};
 ghost use mathlib.Core.List.{[], _∷_};
 ghost use Rattle.model.specs.Plane.{minus, norm};

@@ -8,9 +8,9 @@ use mathlib.Core.List.{List, [], _∷_, _++_}
 use mathlib.Core.Option.{Option, none}
 use lib.ListN.{length, drop, getD, set, length-set}
 use lib.Ieee.{Float}
-use Rattle.floor.specs.Batches.{flags}
 use Rattle.grid.proofs.ListedLaws.{keys-at}
 use Rattle.grid.proofs.WriteLaws.{listed-lengths}
+use Rattle.limits.specs.Batches.{flags}
 use Rattle.lists.proofs.Front.{mix, mix-done, mix-more}
 use Rattle.marks.specs.Standing.{Small, Standing, mood, word}
 use Rattle.marks.specs.declared.mood.Mood.{Mood}
@@ -26,10 +26,11 @@ use Rattle.model.specs.Maps.{AscL, keys}
 use Rattle.table.specs.Listed.{values}
 use Rattle.table.specs.Tables.{All}
 use Rattle.table.proofs.ListedLaws.{keys-length}
-use Rattle.sight.specs.Blocked.{AllNamed, Fitting, Seeing, Stood, codes, pointBlocks, pointStart, wordsOf}
-use Rattle.sight.specs.Codes.{Named, blockCode}
-use Rattle.sight.proofs.NamedLaws.{square-named}
-use Rattle.sight.proofs.PointLaws.{codes-at, codes-length, start-named}
+use Rattle.held.specs.Codes.{AllNamed, Named, blockCode, codes}
+use Rattle.sight.specs.Blocked.{Fitting, Seeing, Stood, pointBlocks, pointStart, wordsOf}
+use Rattle.looks.proofs.NamedLaws.{square-named}
+use Rattle.sight.proofs.PointLaws.{codes-at, start-named}
+use Rattle.held.proofs.LayerLaws.{codes-length}
 
 -- ---- the points as they are lent
 abbrev nobody : ℕ × Standing

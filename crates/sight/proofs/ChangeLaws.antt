@@ -8,9 +8,9 @@ use mathlib.Core.List.{List, [], _∷_}
 use mathlib.Core.Option.{Option}
 use lib.ListN.{length, drop, getD, drop-of-length-le}
 use lib.Seq.{drop-cons}
-use Rattle.floor.specs.Batches.{flags}
 use Rattle.grid.proofs.ListedLaws.{flags-at, keys-at}
 use Rattle.grid.proofs.WriteLaws.{Says}
+use Rattle.limits.specs.Batches.{flags}
 use Rattle.model.specs.Batch.{Batch}
 use Rattle.model.specs.ClosedForm.{pointRun}
 use Rattle.model.specs.Good.{Inside}
@@ -21,7 +21,7 @@ use Rattle.table.specs.Listed.{values}
 use Rattle.table.specs.Tables.{All}
 use Rattle.table.proofs.AllLaws.{all-at}
 use Rattle.table.proofs.ListedLaws.{keys-length}
-use Rattle.sight.specs.Codes.{Named, blockCode}
+use Rattle.held.specs.Codes.{Named, blockCode}
 
 -- the run F makes one step for each change
 pub record Turns (F : Batch → Option ℕ → Option ℕ) (step : ℕ → Bool → Option ℕ → Option ℕ) : Type 0 where

@@ -5,7 +5,7 @@ use mathlib.Core.Path.{_≡_, refl}
 use mathlib.Core.Logic.{_≢_}
 use mathlib.Core.Option.{Option, none, some}
 use Rattle.model.specs.ClosedForm.{orElse}
-use Rattle.sight.specs.Codes.{Named, NamedPair, blockCode, pairCode}
+use Rattle.held.specs.Codes.{Named, NamedPair, blockCode, pairCode}
 
 -- ---- where a pair's blocker begins, by the number of the old pair
 pub held-open : (e : Option (Option ℕ)) (z : Option ℕ) → NamedPair e → pairCode e ≡ 1 → 0 ≡ blockCode (orElse e z)

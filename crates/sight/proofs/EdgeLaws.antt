@@ -10,8 +10,8 @@ use borrow.Author.Tests.{eq-eqb, ne-eqb}
 use lib.Dec.{eqb}
 use lib.Ieee.{Float}
 use lib.ListN.{length, getD}
-use Rattle.floor.specs.Batches.{flags}
 use Rattle.grid.proofs.WriteLaws.{Says, says-free, says-full}
+use Rattle.limits.specs.Batches.{flags}
 use Rattle.model.specs.Batch.{Batch}
 use Rattle.model.specs.Good.{Inside}
 use Rattle.model.specs.Layer.{Tests, edgeAfter, edgeRun}
@@ -20,9 +20,10 @@ use Rattle.model.specs.Map.{tests}
 use Rattle.model.specs.Maps.{AscL, keys}
 use Rattle.table.specs.Listed.{values}
 use Rattle.table.specs.Tables.{All}
-use Rattle.sight.specs.Codes.{Named, blockCode}
+use Rattle.held.specs.Codes.{Named, blockCode}
 use Rattle.sight.proofs.ChangeLaws as change
-use Rattle.sight.proofs.NamedLaws.{inside-named, sweep-named}
+use Rattle.held.proofs.NamedLaws.{inside-named}
+use Rattle.looks.proofs.NamedLaws.{sweep-named}
 
 -- ---- one change
 module _ (t : Tests) (C : List ℕ) (p q c : ℕ) where

@@ -10,9 +10,9 @@ use borrow.Author.Tests.{lt-ltb, le-ltb, ltb-true}
 use lib.Dec.{ltb}
 use lib.Ieee.{Float}
 use lib.ListN.{length, getD, set, length-set}
-use Rattle.floor.specs.Batches.{flags}
 use Rattle.grid.proofs.ListedLaws.{keys-at}
 use Rattle.grid.proofs.WriteLaws.{listed-lengths}
+use Rattle.limits.specs.Batches.{flags}
 use Rattle.marks.specs.Standing.{Small, Standing, mood, word}
 use Rattle.marks.specs.declared.mood.Mood.{Mood}
 use Rattle.model.specs.Batch.{Batch}
@@ -28,8 +28,9 @@ use Rattle.table.specs.Listed.{values}
 use Rattle.table.specs.Tables.{All}
 use Rattle.table.proofs.ListedLaws.{keys-length}
 use Rattle.sight.specs.Blocked.{Fitting, Seeing, Stood, wordsOf}
-use Rattle.sight.specs.Codes.{pairCode}
-use Rattle.sight.specs.Paired.{Filled, Pairs, PairsNamed, pairAt, pairBetween, pointAt}
+use Rattle.held.specs.Codes.{pairCode}
+use Rattle.sight.specs.Paired.{Filled, pairAt, pairBetween, pointAt}
+use Rattle.held.specs.Pairs.{Pairs, PairsNamed}
 use Rattle.sight.specs.Rows.{forePlace, upTo}
 use Rattle.sight.proofs.TableLaws.{filled-both, filled-end, filled-on, filled-over, filled-start}
 

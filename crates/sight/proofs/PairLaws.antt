@@ -19,11 +19,12 @@ use Rattle.model.specs.Limits.{maxCoordinate, maxPoints}
 use Rattle.model.specs.Map.{tests}
 use Rattle.model.specs.Maps.{keys}
 use Rattle.table.specs.Tables.{All}
-use Rattle.sight.specs.Codes.{Named, NamedPair, blockCode, pairCode}
-use Rattle.sight.specs.Paired.{Pairs, PairsNamed, oldPair, pairBetween, pairStart}
+use Rattle.held.specs.Codes.{Named, NamedPair, blockCode, pairCode}
+use Rattle.held.specs.Pairs.{Pairs, PairsNamed}
+use Rattle.sight.specs.Paired.{oldPair, pairBetween, pairStart}
 use Rattle.sight.proofs.CodeLaws.{held-blocked, held-nothing, held-open, orElse-named, pair-blocked, pair-open}
 use Rattle.sight.proofs.EdgeLaws.{run-named}
-use Rattle.sight.proofs.NamedLaws.{sweep-named}
+use Rattle.looks.proofs.NamedLaws.{sweep-named}
 
 -- ---- queued before the other
 pub sooner-never : (a b : ℕ) → a ≡ 0 → false ≡ sooner a b

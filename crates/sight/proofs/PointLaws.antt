@@ -19,10 +19,11 @@ use Rattle.model.specs.Limits.{maxCoordinate}
 use Rattle.model.specs.Map.{shiftOf, tests}
 use Rattle.model.specs.Maps.{AscL}
 use Rattle.table.specs.Tables.{All}
-use Rattle.sight.specs.Blocked.{AllNamed, codes, pointStart}
-use Rattle.sight.specs.Codes.{Named, blockCode}
+use Rattle.held.specs.Codes.{AllNamed, Named, blockCode, codes}
+use Rattle.sight.specs.Blocked.{pointStart}
 use Rattle.sight.proofs.ChangeLaws.{Coded}
-use Rattle.sight.proofs.NamedLaws.{inside-named, square-named}
+use Rattle.held.proofs.NamedLaws.{inside-named}
+use Rattle.looks.proofs.NamedLaws.{square-named}
 
 -- what is given of the cells and of the reach
 pub record Given (size radius : Float) (near : ℕ) (C : List ℕ) : Type 0 where
@@ -65,10 +66,6 @@ module _ (size radius : Float) (near : ℕ) (C : List ℕ) (k c block : ℕ) whe
   point-apart h g (some x) n w = w
 
 -- ---- the beginning
-pub codes-length : (B : List (Option ℕ)) → length (codes B) ≡ length B
-codes-length [] = refl
-codes-length (o ∷ B) = ap suc (codes-length B)
-
 pub codes-at : (B : List (Option ℕ)) (i : ℕ) → getD (codes B) i 0 ≡ blockCode (getD B i none)
 codes-at [] i = refl
 codes-at (o ∷ B) zero = refl

@@ -10,8 +10,9 @@ use borrow.Author.Tests.{lt-ltb, le-ltb}
 use lib.ListN.{length, getD, set, length-set}
 use lib.Seq.{getD-set-same, getD-set-other, drop-set-lt}
 use Rattle.ieee.proofs.Tools.{lt-or-ge}
-use Rattle.sight.specs.Codes.{pairCode}
-use Rattle.sight.specs.Paired.{Filled, Pairs, pairPlaces}
+use Rattle.held.specs.Codes.{pairCode}
+use Rattle.sight.specs.Paired.{Filled}
+use Rattle.held.specs.Pairs.{Pairs, pairPlaces}
 use Rattle.sight.specs.Rows.{forePlace, upTo}
 
 apart : (i j a b : ℕ) → i < j → a < 64 → b < 64 → j < 64 → 64 * a + b ≢ 64 * j + i → 64 * a + b ≢ 64 * i + j → forePlace a b ≢ 64 * i + j

@@ -6,7 +6,7 @@ use mathlib.Core.List.{List, [], _∷_}
 use mathlib.Core.Option.{Option, none}
 use lib.Dec.{eqb}
 use lib.ListN.{getD}
-use Rattle.floor.specs.Batches.{flags}
+use Rattle.limits.specs.Batches.{flags}
 use Rattle.marks.specs.Standing.{Small, Standing, word}
 use Rattle.model.specs.Batch.{Batch}
 use Rattle.model.specs.ClosedForm.{pointRun}
@@ -16,7 +16,6 @@ use Rattle.model.specs.Limits.{maxCoordinate, maxPoints}
 use Rattle.model.specs.Maps.{AscL, keys}
 use Rattle.table.specs.Listed.{values}
 use Rattle.table.specs.Tables.{All}
-use Rattle.sight.specs.Codes.{Named, blockCode}
 
 -- ---- the points in the end, each with what was kept of it
 abbrev pub Stood : Type 0
@@ -42,14 +41,6 @@ pub record Seeing (C : List ℕ) (ch : Batch) (S : Stood) (turned full points mo
   pub moodsAre : moods ≡ wordsOf S
 
 -- ---- blockers
-abbrev pub codes : List (Option ℕ) → List ℕ
-codes [] = []
-codes (o ∷ l) = blockCode o ∷ codes l
-
-abbrev pub AllNamed : List (Option ℕ) → Type 0
-AllNamed [] = Unit {0}
-AllNamed (o ∷ l) = Named o × AllNamed l
-
 -- where a point's blocker begins: with the old one, or with the square test (`startBlock`)
 unfoldable pub pointStart : Tests → List ℕ → List (Option ℕ) → ℕ → Standing → Option ℕ
 pointStart t C B k w = let new = t .square C k .cell in cond (eqb (w .old) 0) new (getD B (w .old - 1) none)

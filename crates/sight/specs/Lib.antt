@@ -1,5 +1,4 @@
 -- What the contracts of crate `sight` cite.
 pub mod Blocked
-pub mod Codes
 pub mod Paired
 pub mod Rows

@@ -1,5 +1,5 @@
 -- What blocks the pairs after the changes. Definitions only.
-use Prim.Native.Nat.{ℕ, _+_, _-_, _*_, _<_}
+use Prim.Native.Nat.{ℕ, _-_}
 use mathlib.Core.Path.{_≡_}
 use mathlib.Core.Bool.{cond, _&&_, _||_}
 use mathlib.Core.List.{List}
@@ -11,16 +11,8 @@ use Rattle.model.specs.Batch.{Batch}
 use Rattle.model.specs.ClosedForm.{orElse}
 use Rattle.model.specs.Corner.{sees, zero4}
 use Rattle.model.specs.Layer.{Tests, edgeRun}
-use Rattle.model.specs.Limits.{maxPoints}
+use Rattle.held.specs.Pairs.{pairPlaces, Pairs}
 use Rattle.sight.specs.Blocked.{Stood}
-use Rattle.sight.specs.Codes.{NamedPair, pairCode}
-
--- places of the table of pairs: a row for each point
-abbrev pub pairPlaces : ℕ
-pairPlaces = maxPoints * maxPoints
-
-abbrev pub pairPlace : ℕ → ℕ → ℕ
-pairPlace i j = maxPoints * i + j
 
 -- the pair of two old points, by their places in the old table P
 unfoldable pub oldPair : (ℕ → ℕ → Option (Option ℕ)) → Standing → Standing → Option (Option ℕ)
@@ -51,14 +43,6 @@ pairAt t C ch P S i j =
     let x = pairBetween t C ch P (p .0) (p .1) (q .0) (q .1) in
     let y = pairBetween t C ch P (q .0) (q .1) (p .0) (p .1) in
     cond (ltb i j && ltb j (length S)) x (cond (ltb j i && ltb i (length S)) y none)
-
--- a table has a pair, or none, for every two places
-abbrev pub Pairs : (ℕ → ℕ → Option (Option ℕ)) → List ℕ → Type 0
-Pairs P t = (i j : ℕ) → i < maxPoints → j < maxPoints → getD t (pairPlace i j) 0 ≡ pairCode (P i j)
-
--- pairs of which the table tells the blockers
-abbrev pub PairsNamed : (ℕ → ℕ → Option (Option ℕ)) → Type 0
-PairsNamed P = (i j : ℕ) → NamedPair (P i j)
 
 -- the table t became t′, with the pairs P; what stands behind is untouched
 pub record Filled (P : ℕ → ℕ → Option (Option ℕ)) (t t′ : List ℕ) : Type 0 where

@@ -3,7 +3,7 @@ use Prim.Native.Nat.{ℕ, _+_, _-_, min}
 use mathlib.Core.Bool.{cond}
 use mathlib.Core.Option.{Option, none}
 use lib.Dec.{ltb}
-use Rattle.sight.specs.Paired.{pairPlace}
+use Rattle.held.specs.Pairs.{pairPlace}
 
 -- the place of a pair from its lesser end
 abbrev pub forePlace : ℕ → ℕ → ℕ

@@ -1,13 +1,13 @@
 // What blocks the points.
-use crate::tests::near_by;
-use crate::tests::square_at;
+use crate::near::near_by;
+use looks::tests::square_at;
 use marks::mood::Mood;
 ghost use mathlib.Core.Path.{_≡_};
 ghost use mathlib.Core.List.{List, _++_};
 ghost use mathlib.Core.Option.{Option};
 ghost use Prim.Native.Nat.{ℕ, _<_, _≤_};
 ghost use lib.ListN.{drop, length};
-ghost use Rattle.floor.specs.Batches.{flags};
+ghost use Rattle.limits.specs.Batches.{flags};
 ghost use Rattle.marks.specs.Standing.{Standing, mood};
 ghost use Rattle.model.specs.Batch.{Batch};
 ghost use Rattle.model.specs.Cell.{reach};
@@ -18,8 +18,8 @@ ghost use Rattle.model.specs.Map.{shiftOf, tests};
 ghost use Rattle.model.specs.Maps.{AscL, keys};
 ghost use Rattle.table.specs.Listed.{values};
 ghost use Rattle.table.specs.Tables.{All};
-ghost use Rattle.sight.specs.Blocked.{AllNamed, Seeing, Stood, codes, pointBlocks, pointStart};
-ghost use Rattle.sight.specs.Codes.{Named, blockCode};
+ghost use Rattle.held.specs.Codes.{AllNamed, Named, blockCode, codes};
+ghost use Rattle.sight.specs.Blocked.{Seeing, Stood, pointBlocks, pointStart};
 
 // The point k that `start` blocks (0 for none), after the changes in turn: a cell within reach blocks a free point, and freeing
 // the blocker repeats the square test.

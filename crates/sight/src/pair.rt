@@ -1,21 +1,18 @@
 // What blocks the pairs.
-use crate::tests::sweep_between;
-use corner::status::Corner;
-use corner::status::CornerStatus;
+use looks::quadrant::sees;
+use looks::tests::sweep_between;
 use marks::mood::Mood;
-use plane::cell::centre;
 use segment::line::LineSegment;
 use segment::many::NearTest;
 use segment::near::Proximity;
+use spot::cell::centre;
 ghost use mathlib.Core.Path.{_≡_};
 ghost use mathlib.Core.Option.{Option, none};
 ghost use Prim.Native.Nat.{ℕ, _+_, _*_, _<_, _≤_};
 ghost use lib.ListN.{length};
-ghost use Rattle.corner.specs.Corners.{dir};
-ghost use Rattle.floor.specs.Batches.{flags};
+ghost use Rattle.limits.specs.Batches.{flags};
 ghost use Rattle.marks.specs.Standing.{Standing, mood, sooner};
 ghost use Rattle.model.specs.Batch.{Batch};
-ghost use Rattle.model.specs.Corner.{Bits, number, quadrant, sees};
 ghost use Rattle.model.specs.Good.{Inside};
 ghost use Rattle.model.specs.Layer.{edgeRun};
 ghost use Rattle.model.specs.Limits.{maxCoordinate, maxPoints};
@@ -25,40 +22,10 @@ ghost use Rattle.segment.specs.Near.{IsProximity};
 ghost use Rattle.table.specs.Listed.{values};
 ghost use Rattle.table.specs.Tables.{All};
 ghost use Rattle.sight.specs.Blocked.{Seeing, Stood};
-ghost use Rattle.sight.specs.Codes.{Named, blockCode, pairCode};
-ghost use Rattle.sight.specs.Paired.{Filled, Pairs, PairsNamed, oldPair, pairAt, pairBetween, pairStart};
+ghost use Rattle.held.specs.Codes.{Named, blockCode, pairCode};
+ghost use Rattle.sight.specs.Paired.{Filled, oldPair, pairAt, pairBetween, pairStart};
+ghost use Rattle.held.specs.Pairs.{Pairs, PairsNamed};
 ghost use Rattle.sight.specs.Rows.{upTo};
-
-// The corner of the signs of q - p, where neither is zero.
-fn quadrant(p: u64, q: u64) -> Corner
-    ensures { λ r. ⌜ dir r ≡ quadrant p q ⌝ }
-{
-    let north = p % 4294967296 < q % 4294967296;
-    if p / 4294967296 < q / 4294967296 {
-        if north {
-            return Corner::Northeast;
-        }
-        return Corner::Southeast;
-    }
-    if north {
-        return Corner::Northwest;
-    }
-    Corner::Southwest
-}
-
-// Whether p lies in the visible quadrant of q, which has this status.
-pub fn sees(p: u64, q: u64, status: u8) -> bool
-    ensures { λ r. ⌜ ((b : Bits) → status ≡ number b → r ≡ sees p q b) ⌝ }
-{
-    if p / 4294967296 == q / 4294967296 {
-        return true;
-    }
-    if p % 4294967296 == q % 4294967296 {
-        return true;
-    }
-    let bits = CornerStatus { bits: status };
-    !bits.get(quadrant(p, q))
-}
 
 // Whether a point was queued before another, told from the first marks that queued them.
 fn is_sooner(a: u64, b: u64) -> bool

@@ -18,8 +18,8 @@ use Rattle.model.specs.Limits.{beyond, maxCoordinate}
 use Rattle.model.specs.Map.{tests}
 use Rattle.model.specs.Maps.{AscL, sift}
 use Rattle.model.specs.Refusal.{offMap}
-use Rattle.sight.specs.Codes.{blockCode}
-use Rattle.sight.proofs.NamedLaws.{sweep-named}
+use Rattle.held.specs.Codes.{blockCode}
+use Rattle.looks.proofs.NamedLaws.{sweep-named}
 use Rattle.table.specs.Tables.{All}
 use Rattle.views.specs.Wrote.{Wrote, steps}
 use Rattle.views.proofs.FillLaws.{Filling, filling-done, filling-none, filling-pass, filling-put, sift-end, sift-kept, sift-left}

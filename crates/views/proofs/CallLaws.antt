@@ -7,8 +7,8 @@ use lib.IntN.{ℤ}
 use Rattle.answers.proofs.PassedLaws.{passed}
 use Rattle.model.specs.Cell.{key}
 use Rattle.model.specs.Refusal.{short}
-use Rattle.visibility.specs.declared.map.Map.{Map}
-use Rattle.visibility.proofs.OpenLaws.{Enough, long-enough}
+use Rattle.held.specs.declared.map.Map.{Map}
+use Rattle.held.proofs.RoomLaws.{Enough, long-enough}
 use Rattle.views.specs.Seen.{refusal}
 use Rattle.views.proofs.AroundLaws.{key-between}
 

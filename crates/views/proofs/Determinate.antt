@@ -9,8 +9,8 @@ use Rattle.answers.proofs.ListingLaws.{listing-one, refused-one}
 use Rattle.model.specs.Answers.{neighbours, visibleFrom}
 use Rattle.model.specs.Cell.{key}
 use Rattle.model.specs.Map as model
-use Rattle.visibility.specs.Holds.{Tables}
-use Rattle.visibility.specs.declared.map.Map.{Map}
+use Rattle.held.specs.Holds.{Tables}
+use Rattle.held.specs.declared.map.Map.{Map}
 use Rattle.views.specs.Seen.{Beside, InSight, besideLengths, refusal, sightLengths}
 
 module _ (m : Map) (cells out a b : List ℕ) (x y : ℤ) (r q : Count) (u : Beside m cells out x y a r) (v : Beside m cells out x y b q) where

@@ -7,7 +7,7 @@ use mathlib.Core.Option.{Option, none, some}
 use lib.Dec.{eqb}
 use borrow.Author.Tests.{eq-eqb, ne-eqb}
 use Rattle.model.specs.Answers.{free, openEdge}
-use Rattle.sight.specs.Codes.{Named, NamedPair, blockCode, pairCode}
+use Rattle.held.specs.Codes.{Named, NamedPair, blockCode, pairCode}
 
 pub block-free : (o : Option ℕ) → Named o → free o ≡ eqb (blockCode o) 0
 block-free none n = refl

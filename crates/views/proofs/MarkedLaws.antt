@@ -12,7 +12,7 @@ use borrow.Author.Tests.{eq-eqb, ne-eqb}
 use Rattle.model.specs.Answers.{openEdge}
 use Rattle.model.specs.Layer.{Edges, Points, edge}
 use Rattle.model.specs.Maps.{keys, sift}
-use Rattle.sight.specs.Codes.{NamedPair, pairCode}
+use Rattle.held.specs.Codes.{NamedPair, pairCode}
 use Rattle.views.specs.Wrote.{Wrote, marked}
 use Rattle.views.proofs.FillLaws.{Filling, filling-done, filling-none, filling-pass, filling-put}
 use Rattle.views.proofs.FreeLaws.{pair-open}

@@ -19,11 +19,11 @@ use Rattle.model.specs.Good.{Inside}
 use Rattle.model.specs.Limits.{maxCoordinate}
 use Rattle.model.specs.Map as model
 use Rattle.model.specs.Maps.{AscL}
-use Rattle.sight.specs.Codes.{blockCode}
-use Rattle.sight.proofs.NamedLaws.{square-named}
+use Rattle.held.specs.Codes.{blockCode}
+use Rattle.looks.proofs.NamedLaws.{square-named}
 use Rattle.table.specs.Tables.{All}
-use Rattle.visibility.specs.declared.map.Map.{Map}
-use Rattle.visibility.proofs.OpenLaws.{Enough}
+use Rattle.held.specs.declared.map.Map.{Map}
+use Rattle.held.proofs.RoomLaws.{Enough}
 use Rattle.views.specs.Wrote.{Wrote, steps}
 use Rattle.views.proofs.AroundLaws.{Told}
 use Rattle.views.specs.Seen.{Beside, besideLengths as lengths, refusal}

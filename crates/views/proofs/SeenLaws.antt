@@ -9,7 +9,7 @@ use mathlib.Core.Option.{Option}
 use lib.Dec.{eqb}
 use lib.Ieee.{Float}
 use lib.ListN.{drop, drop-of-length-le, getD, length, set}
-use Rattle.marks.specs.Marked.{statusesOf}
+use Rattle.held.specs.Layers.{blocksOf, statusesOf}
 use Rattle.model.specs.Answers.{free}
 use Rattle.model.specs.Corner.{Bits, number, sees}
 use Rattle.model.specs.Good.{Inside}
@@ -17,11 +17,9 @@ use Rattle.model.specs.Layer.{Point, Points}
 use Rattle.model.specs.Limits.{maxCoordinate}
 use Rattle.model.specs.Map.{tests}
 use Rattle.model.specs.Maps.{AscL, keys, sift}
-use Rattle.sight.specs.Blocked.{AllNamed, codes}
-use Rattle.sight.specs.Codes.{Named, blockCode}
+use Rattle.held.specs.Codes.{AllNamed, Named, blockCode, codes}
 use Rattle.table.specs.Tables.{All}
 use Rattle.table.proofs.ListedLaws.{keys-length}
-use Rattle.visibility.specs.Layers.{blocksOf}
 use Rattle.views.specs.Wrote.{Wrote, seen}
 use Rattle.views.proofs.AroundLaws.{Told}
 use Rattle.views.proofs.FillLaws.{Filling, filling-done, filling-none, filling-pass, filling-put}

@@ -11,7 +11,7 @@ use borrow.Author.Tests.{lt-ltb}
 use Rattle.answers.specs.Asking.{HoldsSome}
 use Rattle.answers.proofs.ListingLaws.{listing-done}
 use Rattle.floor.proofs.FloorLaws.{holds-cells}
-use Rattle.marks.specs.Marked.{statusesOf}
+use Rattle.held.specs.Layers.{blocksOf, edgeAt, statusesOf}
 use Rattle.model.specs.Answers.{free, freePoints, fromElsewhere, fromPoint, visibleFrom}
 use Rattle.model.specs.Cell.{key}
 use Rattle.model.specs.Corner.{sees}
@@ -22,18 +22,16 @@ use Rattle.model.specs.Map as model
 use Rattle.model.specs.Maps.{AscL, has, keys, sift}
 use Rattle.model.proofs.MapLaws.{keys-has}
 use Rattle.model.proofs.OrderLaws.{asc-keys}
-use Rattle.sight.specs.Blocked.{AllNamed, codes}
-use Rattle.sight.specs.Codes.{NamedPair, pairCode}
+use Rattle.held.specs.Codes.{AllNamed, NamedPair, codes, pairCode}
 use Rattle.table.specs.Tables.{All, rank, stands}
 use Rattle.table.proofs.ListedLaws.{keys-length}
 use Rattle.table.proofs.LookLaws.{stands-has, stands-inside}
-use Rattle.visibility.specs.Holds.{Holds, Tables}
-use Rattle.visibility.specs.Layers.{blocksOf, edgeAt}
-use Rattle.visibility.specs.declared.map.Map.{Map}
-use Rattle.visibility.proofs.LayerLaws.{layer-blocks, layer-keys, layer-statuses}
-use Rattle.visibility.proofs.NamedLaws.{blocks-named, pairs-named}
-use Rattle.visibility.proofs.OpenLaws.{Enough}
-use Rattle.visibility.proofs.PlaceLaws.{rank-at, rank-inside}
+use Rattle.held.specs.Holds.{Holds, Tables}
+use Rattle.held.specs.declared.map.Map.{Map}
+use Rattle.held.proofs.LayerLaws.{layer-blocks, layer-keys, layer-statuses}
+use Rattle.held.proofs.NamedLaws.{blocks-named, pairs-named}
+use Rattle.held.proofs.RoomLaws.{Enough}
+use Rattle.held.proofs.PlaceLaws.{rank-at, rank-inside}
 use Rattle.views.specs.Wrote.{Wrote, marked, seen}
 use Rattle.views.specs.Seen.{InSight, refusal, sightLengths as lengths}
 use Rattle.views.proofs.CallLaws.{few-cells, few-points, rooms}

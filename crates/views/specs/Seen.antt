@@ -11,9 +11,9 @@ use Rattle.model.specs.Answers.{neighbours, visibleFrom}
 use Rattle.model.specs.Cell.{key}
 use Rattle.model.specs.Limits.{beyond, maxCells, maxCoordinate, maxPoints, needOthers}
 use Rattle.model.specs.Refusal.{offMap, short}
-use Rattle.sight.specs.Paired.{pairPlaces}
-use Rattle.visibility.specs.Holds.{Tables}
-use Rattle.visibility.specs.declared.map.Map.{Map}
+use Rattle.held.specs.Pairs.{pairPlaces}
+use Rattle.held.specs.Holds.{Tables}
+use Rattle.held.specs.declared.map.Map.{Map}
 
 -- the refusal that is due, by the lent lengths with their needs: 5 where the cell is more than 64 beyond the batch coordinates
 abbrev pub refusal : Map → List (ℕ × ℕ) → ℤ → ℤ → ℕ

@@ -1,9 +1,9 @@
 // What is seen from a cell, and its neighbours, under C names. Each function is the call of that name, with its contract.
 use answers::judge::Count;
 use floor::cell::Cell;
+use held::map::Map;
 use views::neighbours::neighbours;
 use views::visibility_from::visibility_from;
-use visibility::map::Map;
 ghost use Rattle.views.specs.Seen.{Beside, InSight};
 
 // The neighbours of a cell that can be reached.

@@ -18,9 +18,9 @@ use Rattle.model.specs.Layer.{Mark, Tests, update}
 use Rattle.model.specs.Limits.{needConfirmed, needCorners}
 use Rattle.model.specs.Map as model
 use Rattle.visibility.specs.Change.{changesOf, cornersOf}
-use Rattle.visibility.specs.Holds.{Tables}
+use Rattle.held.specs.Holds.{Tables}
 use Rattle.visibility.specs.Update.{Updating}
-use Rattle.visibility.specs.declared.map.Map.{Map}
+use Rattle.held.specs.declared.map.Map.{Map}
 use Rattle.visibility.proofs.BorderLaws.{changes-length}
 
 -- the tests of the map M

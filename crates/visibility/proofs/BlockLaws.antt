@@ -19,8 +19,9 @@ use Rattle.model.proofs.OrderLaws.{Within, asc-within}
 use Rattle.model.proofs.SingleLaws.{asc-above}
 use Rattle.sight.specs.Blocked.{pointBlocks, pointStart}
 use Rattle.table.specs.Tables.{rank}
-use Rattle.visibility.specs.Layers.{blocksOf, stoodOf}
-use Rattle.visibility.proofs.PlaceLaws.{place-back, place-some}
+use Rattle.held.specs.Layers.{blocksOf}
+use Rattle.visibility.specs.Layers.{stoodOf}
+use Rattle.held.proofs.PlaceLaws.{place-back, place-some}
 use Rattle.visibility.proofs.StoodLaws.{left, left-old, stays-has}
 
 -- a key's blocker stands at the key's place

@@ -11,8 +11,8 @@ use lib.ListN.{length, take}
 use borrow.Author.Tests.{lt-ltb, le-ltb, ltb-false}
 use Rattle.floor.proofs.FloorLaws.{holds-cells}
 use Rattle.grid.proofs.RefuseLaws.{apart}
-use Rattle.floor.specs.Batches.{entries}
 use Rattle.floor.specs.Floor as floor
+use Rattle.limits.specs.Batches.{entries}
 use Rattle.model.proofs.RunLaws.{passed}
 use Rattle.model.specs.Batch.{cellsAfter}
 use Rattle.model.specs.Limits.{maxBatch, maxCells, maxPoints}
@@ -20,12 +20,12 @@ use Rattle.model.specs.Map as model
 use Rattle.model.specs.Maps.{AscL}
 use Rattle.model.specs.Refusal.{badRadius, judge, outside, short, unsorted}
 use Rattle.visibility.specs.Change.{Changing, Lent, lentNeeds, refuseBatch, refusedWith}
-use Rattle.visibility.specs.Holds.{Holds}
+use Rattle.held.specs.Holds.{Holds}
 use Rattle.visibility.specs.Update.{Updated, Updating, pointsAfter}
 use Rattle.visibility.specs.declared.change.Changed.{Changed}
-use Rattle.visibility.specs.declared.map.Map.{Map}
+use Rattle.held.specs.declared.map.Map.{Map}
 use Rattle.visibility.proofs.AcceptedLaws.{next-cells}
-use Rattle.visibility.proofs.LayerLaws.{layer-few}
+use Rattle.held.proofs.LayerLaws.{layer-few}
 use Rattle.visibility.proofs.RefuseLaws.{in-turn, ofInput, turn-some}
 
 -- ---- 9: two lists of lengths, one after the other

@@ -5,6 +5,8 @@ use mathlib.Core.Path.{_≡_, refl, sym, ap, _∙_}
 use mathlib.Core.List.{List, _++_}
 use lib.ListN.{List·getD-append, drop, getD, getD-replicate, length, length-append, length-drop, length-replicate, replicate, take}
 use lib.Seq.{drop-at, drop-drop, getD-append-add, getD-drop, length-take-le}
+use Rattle.marks.proofs.PointsLaws.{drop-zeros}
+use Rattle.table.specs.Tables.{pad}
 
 abbrev pub cleared : ℕ → List ℕ → List ℕ
 cleared n t = replicate n 0 ++ drop n t
@@ -40,3 +42,7 @@ pub cleared-drop : (n m : ℕ) (t : List ℕ) → n ≤ m → drop m (cleared n 
 cleared-drop n m t h =
     let e : n + (m - n) ≡ m = omega arith in
     ap (λ (k : ℕ). drop k (cleared n t)) (sym e) ∙ sym (drop-drop (m - n) n (cleared n t)) ∙ ap (drop (m - n)) (cleared-behind n t) ∙ drop-drop (m - n) n t ∙ ap (λ (k : ℕ). drop k t) e
+
+-- a list written to the front of zeros
+pub padded : (l : List ℕ) (n cap : ℕ) → length l ≡ n → l ++ drop n (replicate cap 0) ≡ pad cap l
+padded l n cap e = ap (λ (u : List ℕ). l ++ u) (drop-zeros n cap ∙ ap (λ (x : ℕ). replicate (cap - x) 0) (sym e))

@@ -9,25 +9,23 @@ use lib.Ieee.{Float}
 use lib.IntN.{ℤ}
 use lib.ListN.{drop, getD, length}
 use lib.Seq.{ext-getD, getD-drop}
-use Rattle.floor.specs.Batches.{entries}
 use Rattle.ieee.proofs.Tools.{lt-or-ge}
+use Rattle.limits.specs.Batches.{entries}
 use Rattle.model.specs.Limits.{maxCells, maxPoints}
-use Rattle.marks.specs.Marked.{statusesOf}
+use Rattle.held.specs.Layers.{blocksOf, edgeAt, statusesOf}
 use Rattle.model.specs.Map as model
 use Rattle.model.specs.Maps.{keys}
 use Rattle.model.specs.Refusal.{judge, refuseOpen}
-use Rattle.sight.specs.Blocked.{codes}
-use Rattle.sight.specs.Codes.{pairCode}
-use Rattle.sight.specs.Paired.{Pairs, pairPlace, pairPlaces}
+use Rattle.held.specs.Codes.{codes, pairCode}
+use Rattle.held.specs.Pairs.{Pairs, pairPlace, pairPlaces}
 use Rattle.visibility.specs.Change.{Changing, Done, Lent, lentNeeds}
-use Rattle.visibility.specs.Holds.{Behind, Holds, Tables, needs}
+use Rattle.held.specs.Holds.{Behind, Holds, Tables, needs}
 use Rattle.table.specs.Tables.{pad}
-use Rattle.visibility.specs.Layers.{blocksOf, edgeAt}
 use Rattle.visibility.specs.Open.{Opening}
 use Rattle.visibility.specs.Radius.{Rebuilding}
 use Rattle.visibility.specs.declared.change.Changed.{Changed}
-use Rattle.visibility.specs.declared.map.Map.{Map}
-use Rattle.visibility.specs.declared.map.Outcome.{Outcome}
+use Rattle.held.specs.declared.map.Map.{Map}
+use Rattle.held.specs.declared.map.Outcome.{Outcome}
 
 -- ---- tables that hold one map, and have the same behind their needs
 pad-one : (cap : ℕ) (l a b : List ℕ) → a ≡ pad cap l ++ drop cap a → b ≡ pad cap l ++ drop cap b → drop cap a ≡ drop cap b → a ≡ b

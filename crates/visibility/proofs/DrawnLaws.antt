@@ -5,8 +5,8 @@ use mathlib.Core.List.{List, [], _++_}
 use mathlib.Core.Option.{Option}
 use lib.ListN.{drop, length}
 use lib.Ieee.{Float}
-use Rattle.marks.specs.Marked.{statusesOf}
-use Rattle.marks.proofs.BeginLaws.{statuses-length}
+use Rattle.held.specs.Layers.{HoldsLayer, blocksOf, edgeAt, statusesOf}
+use Rattle.held.proofs.LayerLaws.{codes-count, statuses-length}
 use Rattle.model.specs.Batch.{Batch}
 use Rattle.model.specs.Cell.{reach}
 use Rattle.model.specs.ClosedForm.{Closed}
@@ -16,17 +16,16 @@ use Rattle.model.specs.Layer.{Layer, Mark, Tests}
 use Rattle.model.specs.Limits.{maxCells, maxPoints}
 use Rattle.model.specs.Map as model
 use Rattle.model.specs.Maps.{Asc, get, isSome, keys}
-use Rattle.sight.specs.Blocked.{Stood, codes}
-use Rattle.sight.specs.Codes.{pairCode}
-use Rattle.sight.specs.Paired.{PairsNamed, pairPlaces}
+use Rattle.sight.specs.Blocked.{Stood}
+use Rattle.held.specs.Codes.{codes, pairCode}
+use Rattle.held.specs.Pairs.{PairsNamed, pairPlaces}
 use Rattle.table.specs.Tables.{pad}
 use Rattle.table.proofs.ListedLaws.{keys-length}
-use Rattle.visibility.specs.Holds.{Behind, Tables}
-use Rattle.visibility.specs.Layers.{HoldsLayer, blocksOf, edgeAt, stoodOf}
+use Rattle.held.specs.Holds.{Behind, Tables}
+use Rattle.visibility.specs.Layers.{stoodOf}
 use Rattle.visibility.specs.Redraw.{Below, Drawing, InRows, Redrawn}
 use Rattle.visibility.proofs.BlockLaws.{blocks-are}
-use Rattle.visibility.proofs.LayerLaws.{codes-count}
-use Rattle.visibility.proofs.PadLaws.{written-rest, written-whole}
+use Rattle.held.proofs.PadLaws.{written-rest, written-whole}
 use Rattle.visibility.proofs.PairLaws.{pairs-are}
 use Rattle.visibility.proofs.StoodLaws.{stood-keys, stood-statuses}
 

@@ -22,16 +22,18 @@ use Rattle.table.specs.Listed.{Listed, values}
 use Rattle.copy.specs.Copied.{Copied}
 use Rattle.table.specs.Tables.{pad}
 use Rattle.visibility.specs.Change.{Done, changesOf, cornersOf}
-use Rattle.visibility.specs.Holds.{Behind, Holds, Tables}
-use Rattle.visibility.specs.Layers.{blocksOf, edgeAt, stoodOf}
+use Rattle.held.specs.Holds.{Behind, Holds, Tables}
+use Rattle.held.specs.Layers.{blocksOf, edgeAt}
+use Rattle.visibility.specs.Layers.{stoodOf}
 use Rattle.visibility.specs.Redraw.{Drawing, Redrawn}
 use Rattle.visibility.specs.Update.{Finishing, Updating}
-use Rattle.visibility.specs.declared.map.Map.{Map}
+use Rattle.held.specs.declared.map.Map.{Map}
 use Rattle.visibility.proofs.AcceptedLaws.{C′, M′, T, ch, closed, cs, few-altered, few-changes, few-corners, good, good-after, ms, next-cells, next-radius, next-size, same-shift, set}
 use Rattle.visibility.proofs.DrawnLaws.{Redraws, drawn-behind, drawn-holds}
-use Rattle.visibility.proofs.LayerLaws.{layer-blocks, layer-rooms, layer-rows}
-use Rattle.visibility.proofs.NamedLaws.{blocks-named, pairs-named}
-use Rattle.visibility.proofs.PadLaws.{copied}
+use Rattle.held.proofs.LayerLaws.{layer-blocks, layer-rooms}
+use Rattle.visibility.proofs.RowLaws.{layer-rows}
+use Rattle.held.proofs.NamedLaws.{blocks-named, pairs-named}
+use Rattle.held.proofs.PadLaws.{copied}
 use Rattle.visibility.proofs.StoodLaws.{fitting, stood-keys, stood-length}
 
 -- a table keeps its length where its first places are written

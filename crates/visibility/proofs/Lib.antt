@@ -7,13 +7,9 @@ pub mod ClearLaws
 pub mod Determinate
 pub mod DrawnLaws
 pub mod FinishLaws
-pub mod LayerLaws
 pub mod MarkLaws
-pub mod NamedLaws
 pub mod OpenLaws
-pub mod PadLaws
 pub mod PairLaws
-pub mod PlaceLaws
 pub mod RebuildLaws
 pub mod RedrawLaws
 pub mod RefuseLaws

@@ -19,7 +19,7 @@ use Rattle.table.specs.Listed.{Listed}
 use Rattle.table.specs.Tables.{pad}
 use Rattle.table.proofs.ListedLaws.{keys-length, listed-numbers}
 use Rattle.visibility.specs.Layers.{stoodOf}
-use Rattle.visibility.proofs.PadLaws.{padded}
+use Rattle.visibility.proofs.ClearLaws.{padded}
 use Rattle.visibility.proofs.StoodLaws.{ended-keys, ended-length, ended-values}
 
 pub numbered-keys : (cs : List (ℕ × Bits)) → keys (numbered cs) ≡ keys cs

@@ -2,12 +2,11 @@
 use Prim.Native.Nat.{ℕ, suc, _≤_, _<_, zero-le}
 use native.Mathlib.Omega.{arith}
 use mathlib.Core.Path.{_≡_, refl, sym, ap, _∙_}
-use mathlib.Core.Bool.{Bool, true, false, cond, _||_, true≢false}
-use mathlib.Core.List.{List, [], _∷_, _++_}
-use lib.Dec.{ltb}
+use mathlib.Core.Bool.{true, false, cond}
+use mathlib.Core.List.{List, [], _++_}
 use lib.Ieee.{Float}
 use lib.ListN.{drop, length, replicate, take}
-use borrow.Author.Tests.{le-ltb, ltb-false}
+use borrow.Author.Tests.{le-ltb}
 use Rattle.floor.proofs.FloorLaws.{holds-none}
 use Rattle.grid.proofs.RefuseLaws.{apart}
 use Rattle.model.proofs.RunLaws.{Sound, open-sound}
@@ -15,26 +14,13 @@ use Rattle.model.specs.Limits.{maxCells, maxPoints}
 use Rattle.model.specs.Map.{emptyLayer, fresh}
 use Rattle.model.specs.Maps.{keys}
 use Rattle.model.specs.Refusal.{badRadius, badSize, firstOf, opened, refuseOpen, short, verdict}
-use Rattle.sight.specs.Paired.{Pairs, pairPlace, pairPlaces}
-use Rattle.visibility.specs.Holds.{Tables, needs}
-use Rattle.visibility.specs.Layers.{HoldsLayer, edgeAt}
+use Rattle.held.specs.Pairs.{Pairs, pairPlace, pairPlaces}
+use Rattle.held.specs.Holds.{Tables, needs}
+use Rattle.held.specs.Layers.{HoldsLayer, edgeAt}
 use Rattle.visibility.specs.Open.{Opening, refusedWith}
-use Rattle.visibility.specs.declared.map.Outcome.{Outcome}
+use Rattle.held.specs.declared.map.Outcome.{Outcome}
+use Rattle.held.proofs.RoomLaws.{long-enough}
 use Rattle.visibility.proofs.ClearLaws.{cleared, cleared-at, cleared-behind, cleared-is, cleared-length, cleared-pad}
-
--- ---- where no table is short, each has its need
-abbrev pub Enough : List (ℕ × ℕ) → Type 0
-Enough [] = Unit {0}
-Enough (b ∷ l) = (b .1 ≤ b .0) × Enough l
-
-pub long-enough : (l : List (ℕ × ℕ)) → short l ≡ false → Enough l
-unfolding short
-long-enough [] e = tt
-long-enough (b ∷ l) e = go (ltb (b .0) (b .1)) refl e (long-enough l)
-  where
-    go : (x : Bool) → ltb (b .0) (b .1) ≡ x → x || short l ≡ false → (short l ≡ false → Enough l) → (b .1 ≤ b .0) × Enough l
-    go true h z ih = absurd (true≢false z)
-    go false h z ih = (ltb-false (b .0) (b .1) h, ih z)
 
 -- ---- the refusals in turn
 module _ (l : List (ℕ × ℕ)) (c r : Float) where

@@ -24,8 +24,9 @@ use Rattle.model.proofs.OrderLaws.{asc-keys}
 use Rattle.sight.specs.Paired.{oldPair, pairAt, pairBetween, pairStart, pointAt}
 use Rattle.table.specs.Tables.{rank}
 use Rattle.table.proofs.ListedLaws.{keys-length}
-use Rattle.visibility.specs.Layers.{edgeAt, stoodOf}
-use Rattle.visibility.proofs.PlaceLaws.{place-back, place-has, place-lt, place-some, rank-at, rank-inside}
+use Rattle.held.specs.Layers.{edgeAt}
+use Rattle.visibility.specs.Layers.{stoodOf}
+use Rattle.held.proofs.PlaceLaws.{place-back, place-has, place-lt, place-some, rank-at, rank-inside}
 use Rattle.visibility.proofs.StoodLaws.{after-has, left, left-old, left-want, stays-has, stood-length}
 
 -- the point at a place, with what is kept of it

@@ -7,7 +7,7 @@ use mathlib.Core.List.{List, [], _∷_}
 use lib.Ieee.{Float}
 use lib.ListN.{length, length-replicate, replicate, take}
 use borrow.Author.Tests.{le-ltb, lt-ltb, ltb-false}
-use Rattle.corner.specs.Changes.{Inner, numbered}
+use Rattle.corner.specs.Changes.{Cornered, numbered}
 use Rattle.grid.proofs.ApplyLaws.{inside-inner}
 use Rattle.floor.proofs.FloorLaws.{holds-cells}
 use Rattle.grid.proofs.RefuseLaws.{apart}
@@ -19,7 +19,7 @@ use Rattle.model.specs.Good.{Good, bitsIn}
 use Rattle.model.specs.Layer.{Layer, Tests, marks, update}
 use Rattle.model.specs.Limits.{maxCells, maxPoints, needCorners}
 use Rattle.model.specs.Map as model
-use Rattle.model.specs.Maps.{AscL, get, isSome, keys}
+use Rattle.model.specs.Maps.{get, isSome, keys}
 use Rattle.model.specs.Refusal.{badRadius, badSize, firstOf, judge, packed, short, verdict}
 use Rattle.model.proofs.ClosedForm.{rebuild-closed}
 use Rattle.model.proofs.LayerLaws.{empty-inv}
@@ -27,21 +27,23 @@ use Rattle.model.proofs.RunLaws.{passed}
 use Rattle.model.proofs.TestLaws.{lawful, tests-shift}
 use Rattle.sight.specs.Blocked.{Stood}
 use Rattle.table.specs.Listed.{Listed}
-use Rattle.table.specs.Tables.{All, pad}
+use Rattle.table.specs.Tables.{pad}
 use Rattle.table.proofs.AllLaws.{all-map}
 use Rattle.table.proofs.ListedLaws.{listed-cells, listed-numbers}
-use Rattle.visibility.specs.Holds.{Behind, Holds, Tables, needs}
-use Rattle.visibility.specs.Layers.{HoldsLayer, edgeAt, stoodOf}
+use Rattle.held.specs.Holds.{Behind, Holds, Tables, needs}
+use Rattle.held.specs.Layers.{HoldsLayer, edgeAt}
+use Rattle.visibility.specs.Layers.{stoodOf}
 use Rattle.visibility.specs.Open.{refusedWith}
 use Rattle.visibility.specs.Radius.{Rebuilding, refuseRadius}
 use Rattle.visibility.specs.Redraw.{Drawing, Redrawn}
-use Rattle.visibility.specs.declared.map.Map.{Map}
-use Rattle.visibility.specs.declared.map.Outcome.{Outcome}
+use Rattle.held.specs.declared.map.Map.{Map}
+use Rattle.held.specs.declared.map.Outcome.{Outcome}
 use Rattle.visibility.proofs.BorderLaws.{corners-bordered, corners-length}
 use Rattle.visibility.proofs.DrawnLaws.{Afresh, drawn-behind, drawn-holds}
-use Rattle.visibility.proofs.LayerLaws.{edges-below, layer-few, layer-rows}
+use Rattle.visibility.proofs.RowLaws.{edges-below, layer-rows}
+use Rattle.held.proofs.LayerLaws.{layer-few}
 use Rattle.visibility.proofs.MarkLaws.{Marks, marked-count, marked-few, marked-keys, marked-many, marked-words, numbered-keys}
-use Rattle.visibility.proofs.OpenLaws.{Enough, long-enough}
+use Rattle.held.proofs.RoomLaws.{Enough, long-enough}
 use Rattle.visibility.proofs.RefuseLaws.{inTurn, radius-turn, turn-none, turn-some}
 use Rattle.visibility.proofs.StoodLaws.{fitting, marking, stood-keys, stood-length}
 
@@ -119,11 +121,6 @@ module _ (m : Map) (r : Float) (t : Tables) where
   pub rebuild-input : (n : ℕ) (o : Outcome) → n ≡ refuseRadius (short (needs t)) m r → (n ≡ 0 → ⊥) → o ≡ refusedWith n → Rebuilding m r t t o
   rebuild-input n o e f q = rebuild-refused n o f q (λ k z. e ∙ z) (λ M h. judged-input h n e f)
 
--- ---- what `corner_cells` promises, of the cells u
-abbrev pub Corners : List ℕ → List ℕ → List ℕ → List ℕ → List ℕ → ℕ → Type 0
-Corners u out out′ statuses statuses′ r =
-    AscL 0 u → All Inner u → length u ≤ length out → length u ≤ length statuses → Listed (numbered (cornerCells u)) out out′ statuses statuses′ r
-
 or-right : (a b : Bool) → a || b ≡ false → b ≡ false
 or-right true b e = absurd (true≢false e)
 or-right false b e = e
@@ -176,12 +173,12 @@ module _ (m : Map) (r : Float) (t : Tables) (pass : refuseRadius (short (needs t
     same-cells : take (m .cells) (t .cells) ≡ C
     same-cells = holds-cells (t .cells) (m .cells) C (h .cells)
 
-    module _ {corners bits ks moods : List ℕ} {found shift n : ℕ} (f : Corners (take (m .cells) (t .cells)) (replicate maxCells 0) corners (replicate maxCells 0) bits found)
+    module _ {corners bits ks moods : List ℕ} {found shift n : ℕ} (f : Cornered (take (m .cells) (t .cells)) (replicate maxCells 0) corners (replicate maxCells 0) bits found)
         (e : shift ≡ model.shiftOf (m .size) r) (g : Marks shift [] [] (take found corners) (take found bits) (replicate maxPoints 0) ks (replicate maxPoints 0) moods n) where
       listed : Listed (numbered cs) (replicate maxCells 0) corners (replicate maxCells 0) bits found
       listed =
           let z : length C ≤ length (replicate {A = ℕ} maxCells 0) = rw (length-replicate {A = ℕ} maxCells 0) (h .cells .room) in
-          subst (λ (u : List ℕ). Corners u (replicate maxCells 0) corners (replicate maxCells 0) bits found) same-cells f (h .cells .order) (all-map C inside-inner (h .cells .inside)) z z
+          subst (λ (u : List ℕ). Cornered u (replicate maxCells 0) corners (replicate maxCells 0) bits found) same-cells f (h .cells .order) (all-map C inside-inner (h .cells .inside)) z z
 
       given : Marking (T .shift) [] cs [] [] (take found corners) (take found bits)
       unfolding keys
@@ -255,7 +252,7 @@ module _ (m : Map) (r : Float) (t : Tables) (pass : refuseRadius (short (needs t
           behind = drawn-behind closed tt real room t t′ drawn (rw same refl)
 
   -- ---- the call
-  module _ {corners bits ks moods : List ℕ} {found shift n : ℕ} (f : Corners (take (m .cells) (t .cells)) (replicate maxCells 0) corners (replicate maxCells 0) bits found)
+  module _ {corners bits ks moods : List ℕ} {found shift n : ℕ} (f : Cornered (take (m .cells) (t .cells)) (replicate maxCells 0) corners (replicate maxCells 0) bits found)
       (e : shift ≡ model.shiftOf (m .size) r) (g : Marks shift [] [] (take found corners) (take found bits) (replicate maxPoints 0) ks (replicate maxPoints 0) moods n) where
     -- too many points: nothing is altered
     pub rebuild-packed : (o : Outcome) → maxPoints < n → o ≡ refusedWith 7 → Rebuilding m r t t o

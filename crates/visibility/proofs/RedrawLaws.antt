@@ -14,16 +14,18 @@ use Rattle.model.specs.Corner.{number, zero4}
 use Rattle.model.specs.Layer.{Tests}
 use Rattle.model.specs.Limits.{maxPoints}
 use Rattle.model.specs.Maps.{keys}
-use Rattle.sight.specs.Blocked.{Fitting, Seeing, Stood, codes, pointBlocks, wordsOf}
+use Rattle.sight.specs.Blocked.{Fitting, Seeing, Stood, pointBlocks, wordsOf}
+use Rattle.held.specs.Codes.{codes}
 use Rattle.sight.proofs.BlockLaws.{fitting-at, words-at, words-length}
-use Rattle.sight.proofs.PointLaws.{codes-length}
+use Rattle.held.proofs.LayerLaws.{codes-length}
 use Rattle.copy.specs.Copied.{Copied}
 use Rattle.table.specs.Tables.{pad}
 use Rattle.table.proofs.ListedLaws.{keys-length}
 use Rattle.table.proofs.TableLaws.{pad-length, pad-take}
 use Rattle.visibility.specs.Layers.{numbersOf}
 use Rattle.visibility.specs.Redraw.{Drawing, Drawn}
-use Rattle.visibility.proofs.PadLaws.{copied, padded}
+use Rattle.held.proofs.PadLaws.{copied}
+use Rattle.visibility.proofs.ClearLaws.{padded}
 
 -- ---- the statuses
 numbers-length : (S : Stood) → length (numbersOf S) ≡ length S

@@ -8,12 +8,12 @@ use lib.ListN.{length}
 use lib.Ieee.{Float}
 use borrow.Author.Tests.{lt-ltb, le-ltb}
 use Rattle.grid.proofs.RefuseLaws.{apart}
-use Rattle.floor.specs.Batches as grid
+use Rattle.limits.specs.Batches as grid
 use Rattle.model.specs.Map.{Entry}
 use Rattle.model.specs.Refusal.{badRadius, badSize, firstOf, outside, short, unsorted, verdict}
 use Rattle.visibility.specs.Change.{refuseBatch}
 use Rattle.visibility.specs.Radius.{refuseRadius}
-use Rattle.visibility.specs.declared.map.Map.{Map}
+use Rattle.held.specs.declared.map.Map.{Map}
 
 -- ---- 9: a list of lengths with their needs
 pub short-first : (n need : ℕ) (l : List (ℕ × ℕ)) → n < need → true ≡ short ((n, need) ∷ l)

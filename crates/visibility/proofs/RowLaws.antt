@@ -2,16 +2,21 @@
 use Prim.Native.Nat.{ℕ, _*_, _≤_, _<_, zero-le}
 use native.Mathlib.Nat.{le-refl}
 use native.Mathlib.Omega.{arith}
-use mathlib.Core.Path.{_≡_, sym, ap, _∙_, subst}
+use mathlib.Core.Path.{_≡_, refl, sym, ap, _∙_, subst}
 use mathlib.Core.Logic.{⊎-elim}
 use mathlib.Core.List.{List, [], _++_, append-nil}
 use mathlib.Core.Option.{Option, none}
 use lib.ListN.{List·getD-eq-default, drop, drop-of-length-le, getD, length, replicate, take}
 use lib.Seq.{getD-take, length-take-le}
+use borrow.Author.Tests.{le-ltb}
+use Rattle.held.specs.Layers.{HoldsLayer, edgeAt}
+use Rattle.held.proofs.LayerLaws.{layer-few}
 use Rattle.ieee.proofs.Tools.{lt-or-ge}
+use Rattle.model.specs.Layer.{Layer}
 use Rattle.model.specs.Limits.{maxPoints}
-use Rattle.sight.specs.Codes.{pairCode}
-use Rattle.sight.specs.Paired.{Filled, Pairs, PairsNamed, pairPlace, pairPlaces}
+use Rattle.held.specs.Codes.{pairCode}
+use Rattle.sight.specs.Paired.{Filled}
+use Rattle.held.specs.Pairs.{Pairs, PairsNamed, pairPlace, pairPlaces}
 use Rattle.copy.specs.Copied.{Copied}
 use Rattle.visibility.specs.Redraw.{Below, InRows}
 use Rattle.visibility.proofs.ClearLaws.{cleared, cleared-at, cleared-drop, cleared-is, cleared-length, cleared-past}
@@ -67,3 +72,11 @@ module _ (n : ℕ) (P : ℕ → ℕ → Option (Option ℕ)) (t : List ℕ) (w :
       let e : length (take (length v) t) ≡ length v = length-take-le (length v) t l in
       let a : v′ ≡ take (length v) t = c .done (rw e (le-refl (length v))) ∙ rw (e, drop-of-length-le v (le-refl (length v))) (append-nil (take (length v) t)) in
       rw a (rows-kept (length v) h l)
+
+-- ---- a layer's pairs are in the rows of its points
+pub edges-below : (l : Layer) → Below (length (l .points)) (edgeAt l)
+unfolding edgeAt
+edges-below l i j h = rw (le-ltb i (length (l .points)) h) refl
+
+pub layer-rows : {points statuses blockers pairs : List ℕ} {n : ℕ} {l : Layer} → HoldsLayer points statuses blockers pairs n l → InRows n (edgeAt l) pairs
+layer-rows {l = l} h = record { room = h .pairsRoom; rows = layer-few h; pairs = h .pairsAre; below = rw (h .count) (edges-below l) }

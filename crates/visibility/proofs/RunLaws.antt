@@ -6,16 +6,16 @@ use mathlib.Core.List.{List, [], _∷_}
 use lib.Dec.{ltb}
 use lib.Ieee.{Float, eq, le, lt}
 use Rattle.model.specs.Map as model
-use Rattle.floor.specs.Batches.{entries}
+use Rattle.limits.specs.Batches.{entries}
 use Rattle.model.specs.Refusal.{badSize, judge, nothing, opened, refuseOpen, run, short, step, unless}
 use Rattle.model.proofs.RunLaws.{passed}
 use Rattle.visibility.specs.Change.{Lent, lentNeeds}
-use Rattle.visibility.specs.Holds.{Holds, Tables, needs}
+use Rattle.held.specs.Holds.{Holds, Tables, needs}
 use Rattle.visibility.specs.Open.{Opening, noMap}
 use Rattle.visibility.specs.Run.{Batched, Called, Calls, Resized, State, goesOn}
 use Rattle.visibility.specs.declared.change.Changed.{Changed}
-use Rattle.visibility.specs.declared.map.Map.{Map}
-use Rattle.visibility.specs.declared.map.Outcome.{Outcome}
+use Rattle.held.specs.declared.map.Map.{Map}
+use Rattle.held.specs.declared.map.Outcome.{Outcome}
 use Rattle.visibility.proofs.OpenLaws.{open-passes}
 use Rattle.visibility.proofs.RefuseLaws.{batch-size, radius-turn}
 

@@ -8,7 +8,8 @@ use lib.Dec.{T, eqb, eqb→eq}
 use lib.ListN.{length}
 use Rattle.corner.specs.Changes.{numbered}
 use Rattle.grid.proofs.SetLaws.{same-members}
-use Rattle.marks.specs.Marked.{Bordered, Marking, ended, ending, statusesOf}
+use Rattle.marks.specs.Marked.{Bordered, Marking, ended, ending}
+use Rattle.held.specs.Layers.{statusesOf}
 use Rattle.marks.specs.Standing.{Standing, begun, standing, word, words}
 use Rattle.marks.proofs.StandingLaws.{Placed, standing-bits, standing-first-le, standing-old, standing-old-le}
 use Rattle.model.specs.Batch.{Batch}
@@ -29,7 +30,7 @@ use Rattle.table.specs.Tables.{All, rank}
 use Rattle.table.proofs.AllLaws.{ascL-down}
 use Rattle.table.proofs.ListedLaws.{keys-length}
 use Rattle.visibility.specs.Layers.{numbersOf, stoodOf}
-use Rattle.visibility.proofs.PlaceLaws.{rank-inside}
+use Rattle.held.proofs.PlaceLaws.{rank-inside}
 
 -- what the marks leave of what is kept of a key
 abbrev pub left : List Mark → Points → ℕ → Standing

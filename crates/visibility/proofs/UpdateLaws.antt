@@ -10,9 +10,9 @@ use lib.IntN.{ℤ}
 use lib.ListN.{length, length-replicate, replicate, take}
 use borrow.Author.Tests.{ltb-false, ltb-true}
 use Rattle.corner.specs.Changes.{numbered}
-use Rattle.floor.specs.Batches.{entries, flags}
-use Rattle.floor.proofs.EntryLaws.{entries-length}
 use Rattle.floor.proofs.FloorLaws.{holds-cells}
+use Rattle.limits.specs.Batches.{entries, flags}
+use Rattle.limits.proofs.EntryLaws.{entries-length}
 use Rattle.marks.specs.Marked.{Marking}
 use Rattle.model.specs.Batch.{cellsAfter, confirmed, cornerChanges}
 use Rattle.model.specs.Cell.{reach}
@@ -25,14 +25,14 @@ use Rattle.sight.specs.Blocked.{wordsOf}
 use Rattle.table.specs.Listed.{Listed}
 use Rattle.table.proofs.ListedLaws.{listed-cells, listed-numbers}
 use Rattle.visibility.specs.Change.{Done, Lent, changesOf, cornersOf, refusedWith}
-use Rattle.visibility.specs.Holds.{Tables}
+use Rattle.held.specs.Holds.{Tables}
 use Rattle.visibility.specs.Layers.{stoodOf}
 use Rattle.visibility.specs.Update.{Finishing, Planned, Updated, Updating, pointsAfter}
 use Rattle.visibility.specs.declared.change.Changed.{Changed}
-use Rattle.visibility.specs.declared.map.Map.{Map}
+use Rattle.held.specs.declared.map.Map.{Map}
 use Rattle.visibility.proofs.AcceptedLaws.{C′, M′, T, ch, closed, cs, few-corners, good, law, same-shift, set}
 use Rattle.visibility.proofs.BorderLaws.{changes-bordered}
-use Rattle.visibility.proofs.LayerLaws.{layer-keys, layer-statuses}
+use Rattle.held.proofs.LayerLaws.{layer-keys, layer-statuses}
 use Rattle.visibility.proofs.MarkLaws.{Marks, marked-count, marked-few, marked-keys, marked-many, marked-words, numbered-keys}
 use Rattle.visibility.proofs.StoodLaws.{marking}
 

@@ -7,17 +7,17 @@ use lib.Dec.{ltb}
 use lib.IntN.{ℤ}
 use lib.ListN.{length}
 use Rattle.corner.specs.Changes.{numbered}
-use Rattle.floor.specs.Batches.{entries, flags}
 use Rattle.floor.specs.Floor as floor
+use Rattle.limits.specs.Batches.{entries, flags}
 use Rattle.model.specs.Batch.{cellsAfter, confirmed, cornerChanges}
 use Rattle.model.specs.Limits.{maxBatch, maxCells, maxPoints, needConfirmed, needCorners}
 use Rattle.model.specs.Map as model
 use Rattle.model.specs.Refusal.{badRadius, badSize, judge, outside, short, unsorted, verdict}
 use Rattle.table.specs.Listed.{Listed}
-use Rattle.visibility.specs.Holds.{Behind, Holds, Tables, needs}
+use Rattle.held.specs.Holds.{Behind, Holds, Tables, needs}
 use Rattle.visibility.specs.Open.{noMap}
 use Rattle.visibility.specs.declared.change.Changed.{Changed}
-use Rattle.visibility.specs.declared.map.Map.{Map}
+use Rattle.held.specs.declared.map.Map.{Map}
 
 -- the map's tables; the confirmed changes with 1 or 0; the corner changes with their statuses
 pub record Lent : Type 0 where

@@ -1,6 +1,5 @@
 -- What the contracts of crate `visibility` cite.
 pub mod Change
-pub mod Holds
 pub mod Layers
 pub mod Open
 pub mod Radius

@@ -5,9 +5,9 @@ use lib.Ieee.{Float}
 use Rattle.ieee.specs.Constants.{nought}
 use Rattle.model.specs.Map.{fresh}
 use Rattle.model.specs.Refusal.{refuseOpen}
-use Rattle.visibility.specs.Holds.{Behind, Holds, Tables, needs}
-use Rattle.visibility.specs.declared.map.Map.{Map}
-use Rattle.visibility.specs.declared.map.Outcome.{Outcome}
+use Rattle.held.specs.Holds.{Behind, Holds, Tables, needs}
+use Rattle.held.specs.declared.map.Map.{Map}
+use Rattle.held.specs.declared.map.Outcome.{Outcome}
 
 -- all zero: what a refused call gives
 abbrev pub noMap : Map

@@ -8,10 +8,10 @@ use lib.ListN.{length}
 use Rattle.model.specs.Limits.{maxCells, maxPoints}
 use Rattle.model.specs.Map as model
 use Rattle.model.specs.Refusal.{badRadius, badSize, judge, short, verdict}
-use Rattle.visibility.specs.Holds.{Behind, Holds, Tables, needs}
+use Rattle.held.specs.Holds.{Behind, Holds, Tables, needs}
 use Rattle.visibility.specs.Open.{refusedWith}
-use Rattle.visibility.specs.declared.map.Map.{Map}
-use Rattle.visibility.specs.declared.map.Outcome.{Outcome}
+use Rattle.held.specs.declared.map.Map.{Map}
+use Rattle.held.specs.declared.map.Outcome.{Outcome}
 
 -- the model's refusals of a radius change (`judge`), by the map handed in alone
 unfoldable pub refuseRadius : Bool → Map → Float → ℕ

@@ -8,8 +8,10 @@ use Rattle.model.specs.Batch.{Batch}
 use Rattle.model.specs.Layer.{Tests}
 use Rattle.model.specs.Limits.{maxPoints}
 use Rattle.model.specs.Maps.{keys}
-use Rattle.sight.specs.Blocked.{AllNamed, Seeing, Stood, codes, pointBlocks, wordsOf}
-use Rattle.sight.specs.Paired.{Filled, Pairs, pairAt, pairPlaces}
+use Rattle.held.specs.Codes.{AllNamed, codes}
+use Rattle.sight.specs.Blocked.{Seeing, Stood, pointBlocks, wordsOf}
+use Rattle.sight.specs.Paired.{Filled, pairAt}
+use Rattle.held.specs.Pairs.{Pairs, pairPlaces}
 use Rattle.table.specs.Tables.{pad}
 use Rattle.visibility.specs.Layers.{numbersOf}
 

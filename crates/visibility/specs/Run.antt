@@ -5,15 +5,15 @@ use mathlib.Core.Bool.{false}
 use mathlib.Core.List.{List, [], _∷_}
 use lib.IntN.{ℤ}
 use lib.Ieee.{Float}
-use Rattle.floor.specs.Batches.{entries}
+use Rattle.limits.specs.Batches.{entries}
 use Rattle.model.specs.Map as model
 use Rattle.model.specs.Refusal.{short}
 use Rattle.visibility.specs.Change.{Changing, Lent, lentNeeds}
-use Rattle.visibility.specs.Holds.{Tables, needs}
+use Rattle.held.specs.Holds.{Tables, needs}
 use Rattle.visibility.specs.Radius.{Rebuilding}
 use Rattle.visibility.specs.declared.change.Changed.{Changed}
-use Rattle.visibility.specs.declared.map.Map.{Map}
-use Rattle.visibility.specs.declared.map.Outcome.{Outcome}
+use Rattle.held.specs.declared.map.Map.{Map}
+use Rattle.held.specs.declared.map.Outcome.{Outcome}
 
 -- what a caller keeps: his struct and his tables
 pub record State : Type 0 where

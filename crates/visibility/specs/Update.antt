@@ -17,10 +17,10 @@ use Rattle.sight.specs.Blocked.{wordsOf}
 use Rattle.table.specs.Listed.{values}
 use Rattle.table.specs.Tables.{pad}
 use Rattle.visibility.specs.Change.{Done, Lent, changesOf, cornersOf, refusedWith}
-use Rattle.visibility.specs.Holds.{Holds, Tables}
+use Rattle.held.specs.Holds.{Holds, Tables}
 use Rattle.visibility.specs.Layers.{stoodOf}
 use Rattle.visibility.specs.declared.change.Changed.{Changed}
-use Rattle.visibility.specs.declared.map.Map.{Map}
+use Rattle.held.specs.declared.map.Map.{Map}
 
 -- what is known once the map handed in, the entries l and the number of cells afterwards have passed
 pub record Updating (m : Map) (t : Tables) (M : model.Map) (l : List model.Entry) : Type 0 where

@@ -3,7 +3,7 @@ ghost use mathlib.Core.Path.{_≡_};
 ghost use mathlib.Core.List.{[], _∷_};
 ghost use Rattle.model.specs.Limits.{maxCells, maxPoints};
 ghost use Rattle.model.specs.Refusal.{short};
-ghost use Rattle.sight.specs.Paired.{pairPlaces};
+ghost use Rattle.held.specs.Pairs.{pairPlaces};
 
 // 9: whether one of a map's tables is short of its need.
 pub(crate) fn short_tables(

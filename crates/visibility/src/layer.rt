@@ -14,7 +14,8 @@ ghost use Rattle.model.specs.Batch.{Batch};
 ghost use Rattle.model.specs.Cell.{reach};
 ghost use Rattle.model.specs.Map.{shiftOf, tests};
 ghost use Rattle.sight.specs.Blocked.{Fitting, Seeing, Stood, wordsOf};
-ghost use Rattle.sight.specs.Paired.{Filled, Pairs, PairsNamed, pairAt};
+ghost use Rattle.sight.specs.Paired.{Filled, pairAt};
+ghost use Rattle.held.specs.Pairs.{Pairs, PairsNamed};
 ghost use Rattle.visibility.specs.Layers.{numbersOf};
 ghost use Rattle.visibility.specs.Redraw.{Below, Drawing, Drawn, InRows, Redrawn};
 

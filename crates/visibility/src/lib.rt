@@ -3,7 +3,7 @@
 pub mod change;
 pub mod judge;
 mod layer;
-pub mod map;
 pub mod open;
 mod plan;
 pub mod radius;
+mod refusal;

@@ -1,12 +1,12 @@
 // Opening a map.
 use crate::judge::short_tables;
-use crate::map::Map;
-use crate::map::Outcome;
-use crate::map::refused;
+use crate::refusal::refused;
 use copy::bytes::clear_bytes;
 use copy::copy::clear;
-use floor::judge::bad_size;
-use floor::radius::bad_radius;
+use held::map::Map;
+use held::map::Outcome;
+use limits::judge::bad_size;
+use limits::radius::bad_radius;
 ghost use Rattle.visibility.specs.Open.{Opening};
 
 // Clears the tables up to their fixed need.

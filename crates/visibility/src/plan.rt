@@ -1,9 +1,9 @@
 // What a batch on a map comes to, worked out before any table is altered.
-use crate::map::Map;
 use corners::changes::corner_changes;
-use floor::radius::reach_of;
-use floor::radius::shift_of;
 use grid::batch::confirm;
+use held::map::Map;
+use limits::radius::reach_of;
+use limits::radius::shift_of;
 use marks::points::mark_points;
 ghost use mathlib.Core.Path.{_≡_};
 ghost use mathlib.Core.Bool.{false};
@@ -11,7 +11,7 @@ ghost use mathlib.Core.List.{List};
 ghost use Prim.Native.Nat.{ℕ, _*_, _≤_};
 ghost use lib.ListN.{length, replicate, take};
 ghost use Rattle.corner.specs.Changes.{numbered};
-ghost use Rattle.floor.specs.Batches.{entries, flags};
+ghost use Rattle.limits.specs.Batches.{entries, flags};
 ghost use Rattle.model.specs.Batch.{cellsAfter, confirmed, cornerChanges};
 ghost use Rattle.model.specs.Limits.{maxPoints};
 ghost use Rattle.model.specs.Map.{toBatch};

@@ -1,14 +1,14 @@
 // A change of the radius: points and pairs are built afresh, over cells that stay.
 use crate::judge::short_tables;
 use crate::layer::draw_afresh;
-use crate::map::Map;
-use crate::map::Outcome;
-use crate::map::refused;
+use crate::refusal::refused;
 use corner::cells::corner_cells;
-use floor::judge::bad_size;
-use floor::radius::bad_radius;
-use floor::radius::reach_of;
-use floor::radius::shift_of;
+use held::map::Map;
+use held::map::Outcome;
+use limits::judge::bad_size;
+use limits::radius::bad_radius;
+use limits::radius::reach_of;
+use limits::radius::shift_of;
 use marks::points::mark_points;
 ghost use mathlib.Core.Path.{_≡_};
 ghost use Rattle.visibility.specs.Radius.{Rebuilding, refuseRadius};

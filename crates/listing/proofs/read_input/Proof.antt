@@ -6,7 +6,7 @@ use mathlib.Core.Path.{_≡_, _∙_, refl}
 use mathlib.Core.List.{List}
 use lib.ListN.{drop, length, length-take, take}
 use Rattle.report.proofs.FileLaws.{SameLong, same-both, same-none}
-use Rattle.visibility.specs.Holds.{Tables}
+use Rattle.held.specs.Holds.{Tables}
 use Rattle.listing.proofs.read_input.Statement.{statement}
 use Rattle.listing.proofs.read_input.Tie as tie
 

@@ -2,7 +2,7 @@
 use mathlib.Core.Path.{sym}
 use mir.Syntax.{w64}
 use mir.ValLaws.{toZ-ofZ}
-use Rattle.floor.proofs.SignedLaws.{off-below, off-above}
+use Rattle.limits.proofs.SignedLaws.{off-below, off-above}
 use Rattle.answers.proofs.judge.beyond_edge.Statement.{statement}
 use Rattle.answers.proofs.judge.beyond_edge.Tie as tie
 

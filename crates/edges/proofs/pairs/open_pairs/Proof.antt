@@ -9,7 +9,7 @@ use Rattle.answers.proofs.ListingLaws.{listing-done, listing-refused}
 use Rattle.answers.proofs.PassedLaws.{accepted, none-short, lacks-short}
 use Rattle.answers.specs.Asking.{refuseMap}
 use Rattle.model.specs.Refusal.{short}
-use Rattle.visibility.proofs.OpenLaws.{Enough}
+use Rattle.held.proofs.RoomLaws.{Enough}
 use Rattle.edges.proofs.PairLaws.{open-written}
 use Rattle.edges.proofs.PointLaws.{used}
 use Rattle.edges.proofs.pairs.open_pairs.Statement.{statement}

@@ -7,8 +7,8 @@ use lib.ListN.{length}
 use borrow.Author.Needs.{needs}
 use borrow.Author.Tests.{ltb-true, ltb-false}
 use Rattle.model.proofs.RunLaws.{batch-ascends}
-use Rattle.floor.specs.Batches.{entries}
-use Rattle.floor.proofs.EntryLaws.{entries-length}
+use Rattle.limits.specs.Batches.{entries}
+use Rattle.limits.proofs.EntryLaws.{entries-length}
 use Rattle.grid.proofs.ListingLaws.{Listing, Looked, listing-start, listing-more, listing-same, listing-end}
 use Rattle.grid.proofs.batch.confirm.Statement.{statement}
 use Rattle.grid.proofs.batch.confirm.Tie as tie

@@ -5,7 +5,7 @@ use mathlib.Core.Logic.{⊎-elim}
 use lib.ListN.{length}
 use borrow.Author.Needs.{needs}
 use Rattle.model.proofs.RunLaws.{batch-ascends}
-use Rattle.floor.specs.Batches.{entries}
+use Rattle.limits.specs.Batches.{entries}
 use Rattle.grid.proofs.ListingLaws.{Counted, Looked, counted-start, counted-more, counted-less, counted-same, counted-end}
 use Rattle.grid.proofs.batch.count_after.Statement.{statement}
 use Rattle.grid.proofs.batch.count_after.Tie as tie

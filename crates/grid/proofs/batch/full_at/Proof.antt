@@ -1,7 +1,7 @@
 -- `batch::full_at`: any number but 0 says occupied. Assumes nothing.
 use Prim.Native.Nat.{_+_}
-use Rattle.floor.proofs.EntryLaws.{item}
-use Rattle.floor.proofs.SignedLaws.{not-zero}
+use Rattle.limits.proofs.EntryLaws.{item}
+use Rattle.limits.proofs.SignedLaws.{not-zero}
 use borrow.Author.Needs.{needs}
 use Rattle.grid.proofs.batch.full_at.Statement.{statement}
 use Rattle.grid.proofs.batch.full_at.Tie as tie

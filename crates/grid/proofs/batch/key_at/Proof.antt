@@ -1,8 +1,8 @@
 -- `batch::key_at` is the key of the two numbers. Assumes nothing.
 use Prim.Native.Nat.{_+_}
 use borrow.Author.Needs.{needs}
-use Rattle.floor.proofs.EntryLaws.{item}
-use Rattle.floor.proofs.SignedLaws.{back}
+use Rattle.limits.proofs.EntryLaws.{item}
+use Rattle.limits.proofs.SignedLaws.{back}
 use Rattle.grid.proofs.batch.key_at.Statement.{statement}
 use Rattle.grid.proofs.batch.key_at.Tie as tie
 

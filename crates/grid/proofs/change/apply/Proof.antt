@@ -2,7 +2,7 @@
 use native.Mathlib.Omega.{arith}
 use mathlib.Core.Path.{refl, sym}
 use lib.Seq.{length-take-le}
-use Rattle.floor.specs.Batches.{entries}
+use Rattle.limits.specs.Batches.{entries}
 use Rattle.grid.proofs.ApplyLaws.{applied}
 use borrow.Author.Needs.{needs}
 use Rattle.grid.proofs.change.apply.Statement.{statement}

@@ -8,7 +8,7 @@ use lib.ListN.{length}
 use lib.Seq.{length-take-le}
 use borrow.Author.Needs.{needs}
 use borrow.Author.Tests.{ltb-false}
-use Rattle.floor.specs.Batches.{entries}
+use Rattle.limits.specs.Batches.{entries}
 use Rattle.grid.specs.Change.{refuseChange, shortOf}
 use Rattle.grid.proofs.CallLaws.{accepted, early-refused, late-refused}
 use Rattle.grid.proofs.RefuseLaws.{Passed, change-passed, long-enough}

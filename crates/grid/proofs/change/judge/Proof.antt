@@ -5,7 +5,7 @@ use Prim.Native.Nat.{ℕ}
 use lib.Dec.{ltb}
 use borrow.Author.Needs.{needs}
 use borrow.Author.Tests.{lt-ltb, le-ltb}
-use Rattle.floor.specs.Batches.{entries}
+use Rattle.limits.specs.Batches.{entries}
 use Rattle.grid.specs.Change.{refuseChange}
 use Rattle.grid.proofs.RefuseLaws.{change-batch, change-last, change-short, change-size}
 use Rattle.grid.proofs.change.judge.Statement.{statement}

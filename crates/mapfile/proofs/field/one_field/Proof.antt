@@ -11,8 +11,8 @@ use Rattle.fields.specs.Fields.{expectedOf, headOf}
 use Rattle.model.specs.MapFile as model
 use Rattle.model.specs.MapFile.{takeBatch, takeEnd, takeRadius, takeSize, taken}
 use Rattle.model.specs.Refusal.{short}
-use Rattle.visibility.specs.Holds.{Tables}
-use Rattle.visibility.specs.Holds as tables
+use Rattle.held.specs.Holds.{Tables}
+use Rattle.held.specs.Holds as tables
 use Rattle.mapfile.specs.Reads.{FieldRead, Took}
 use Rattle.mapfile.specs.declared.reader.Reading.{Reading}
 use Rattle.mapfile.proofs.FieldLaws.{batch-flags, batch-long, field-lacking, field-refused, field-stopped, field-taken, is-batch, is-end, never-end, radius-long, size-long, used-within, valueOf}

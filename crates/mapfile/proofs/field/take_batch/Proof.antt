@@ -1,7 +1,7 @@
 -- `field::take_batch`: the entries as numbers, then refused, or on to the next. Assumes nothing.
 use mathlib.Core.Path.{refl}
 use Rattle.visibility.specs.Change.{Lent}
-use Rattle.visibility.specs.Holds.{Tables}
+use Rattle.held.specs.Holds.{Tables}
 use Rattle.mapfile.proofs.BatchLaws.{batch-refused, batch-taken, front, front-is, front-long}
 use Rattle.mapfile.proofs.field.take_batch.Statement.{statement}
 use Rattle.mapfile.proofs.field.take_batch.Tie as tie

@@ -7,8 +7,8 @@ use mathlib.Core.Path.{_≡_, refl}
 use mathlib.Core.List.{List, [], _∷_}
 use lib.ListN.{length}
 use Rattle.model.specs.MapFile.{readFile}
-use Rattle.visibility.proofs.OpenLaws.{Enough}
-use Rattle.visibility.specs.Holds.{Tables}
+use Rattle.held.proofs.RoomLaws.{Enough}
+use Rattle.held.specs.Holds.{Tables}
 use Rattle.report.proofs.CallLaws.{not-short}
 use Rattle.report.proofs.EndLaws.{ended-done, ended-refused, list-read, list-refused, list-short}
 use Rattle.report.proofs.file.list_file.Statement.{statement}

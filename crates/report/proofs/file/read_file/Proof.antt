@@ -6,7 +6,7 @@ use mathlib.Core.List.{List}
 use lib.ListN.{drop, length}
 use Rattle.lists.proofs.Parts.{tail-is}
 use Rattle.mapfile.specs.Reads.{FieldRead}
-use Rattle.visibility.specs.Holds.{Tables}
+use Rattle.held.specs.Holds.{Tables}
 use Rattle.report.proofs.FileLaws.{ReadTo, SameLong, more-within, read-done, read-more, read-none, read-refused, same-both, same-none}
 use Rattle.report.proofs.file.read_file.Statement.{statement}
 use Rattle.report.proofs.file.read_file.Tie as tie

@@ -14,7 +14,7 @@ use Rattle.answers.proofs.PassedLaws.{accepted, none-short, lacks-short}
 use Rattle.answers.specs.Asking.{refuseMap}
 use Rattle.edges.proofs.PointLaws.{used}
 use Rattle.model.specs.Refusal.{short}
-use Rattle.visibility.proofs.OpenLaws.{Enough}
+use Rattle.held.proofs.RoomLaws.{Enough}
 use Rattle.report.proofs.CallLaws.{call-accepted, map-accepted}
 use Rattle.report.proofs.MapLaws.{all-clamped, map-written}
 use Rattle.report.proofs.map.list_map.Statement.{statement}

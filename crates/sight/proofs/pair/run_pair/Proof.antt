@@ -7,7 +7,7 @@ use borrow.Author.Needs.{needs}
 use lib.ListN.{length, getD}
 use Rattle.model.specs.Map.{tests}
 use Rattle.sight.proofs.EdgeLaws.{Running, running-end, running-freed, running-kept, running-missed, running-passed, running-start}
-use Rattle.sight.proofs.TestLaws.{says, says-near}
+use Rattle.sight.proofs.NearLaws.{says, says-near}
 use Rattle.sight.proofs.pair.run_pair.Statement.{statement}
 use Rattle.sight.proofs.pair.run_pair.Tie as tie
 

@@ -9,8 +9,9 @@ use Rattle.marks.specs.Standing.{Standing, mood, sooner}
 use Rattle.marks.specs.declared.mood.Mood.{Mood}
 use Rattle.model.specs.Limits.{maxPoints}
 use Rattle.model.specs.Map.{tests}
-use Rattle.sight.specs.Codes.{pairCode}
-use Rattle.sight.specs.Paired.{Pairs, oldPair}
+use Rattle.held.specs.Codes.{pairCode}
+use Rattle.held.specs.Pairs.{Pairs}
+use Rattle.sight.specs.Paired.{oldPair}
 use Rattle.sight.proofs.PairLaws.{start-held, start-new, start-open}
 use Rattle.sight.proofs.pair.start_pair.Statement.{statement}
 use Rattle.sight.proofs.pair.start_pair.Tie as tie

@@ -3,7 +3,7 @@ use mathlib.Core.Path.{sym, _∙_}
 use borrow.Author.Tests.{not-false, not-true}
 use Rattle.model.specs.Corner.{sees}
 use Rattle.model.specs.Map.{tests}
-use Rattle.sight.proofs.NamedLaws.{sweep-named}
+use Rattle.looks.proofs.NamedLaws.{sweep-named}
 use Rattle.views.proofs.SeenLaws.{seen-blocked, seen-hidden, seen-swept}
 use Rattle.views.proofs.visibility_from.is_seen.Statement.{statement}
 use Rattle.views.proofs.visibility_from.is_seen.Tie as tie

@@ -8,9 +8,9 @@ use lib.ListN.{length, take}
 use Rattle.answers.proofs.ListingLaws.{listing-refused}
 use Rattle.answers.proofs.PassedLaws.{refused-as, lacks-short, none-short}
 use Rattle.model.specs.Limits.{maxCells, maxPoints, needOthers}
-use Rattle.sight.specs.Paired.{pairPlaces}
+use Rattle.held.specs.Pairs.{pairPlaces}
 use Rattle.table.specs.Tables.{stands}
-use Rattle.visibility.specs.Holds.{Tables}
+use Rattle.held.specs.Holds.{Tables}
 use Rattle.views.specs.Seen.{sightLengths as lengths, refusal}
 use Rattle.views.proofs.VisibilityLaws.{Going, blockers-used, cells-used, paired-fits, paired-listed, points-used, row-inside, seen-fits, seen-listed, statuses-used}
 use Rattle.views.proofs.visibility_from.visibility_from.Statement.{statement}

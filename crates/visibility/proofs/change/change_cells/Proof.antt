@@ -5,12 +5,12 @@ use mathlib.Core.Logic.{⊎-elim, inl, inr}
 use mathlib.Core.Bool.{Bool, false}
 use lib.Dec.{ltb}
 use lib.Seq.{length-take-le}
-use Rattle.floor.specs.Batches.{entries}
+use Rattle.limits.specs.Batches.{entries}
 use Rattle.model.specs.Refusal.{short}
 use Rattle.visibility.specs.Change.{Lent, lentNeeds, refuseBatch}
-use Rattle.visibility.specs.Holds as tables
+use Rattle.held.specs.Holds as tables
 use Rattle.visibility.proofs.ChangeLaws.{Passed, batch-passed, crowded-refused, early-refused, packed-refused, short-either, updated}
-use Rattle.visibility.proofs.OpenLaws.{Enough, long-enough}
+use Rattle.held.proofs.RoomLaws.{Enough, long-enough}
 use Rattle.visibility.proofs.UpdateLaws.{lentOf}
 use Rattle.visibility.proofs.change.change_cells.Statement.{statement}
 use Rattle.visibility.proofs.change.change_cells.Tie as tie

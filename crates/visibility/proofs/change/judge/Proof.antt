@@ -5,7 +5,7 @@ use Prim.Native.Nat.{ℕ}
 use lib.Dec.{ltb}
 use borrow.Author.Needs.{needs}
 use borrow.Author.Tests.{lt-ltb, le-ltb}
-use Rattle.floor.specs.Batches.{entries}
+use Rattle.limits.specs.Batches.{entries}
 use Rattle.visibility.specs.Change.{refuseBatch}
 use Rattle.visibility.proofs.RefuseLaws.{batch-entries, batch-last, batch-radius, batch-short, batch-size}
 use Rattle.visibility.proofs.change.judge.Statement.{statement}

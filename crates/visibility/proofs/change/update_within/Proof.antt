@@ -4,7 +4,7 @@ use native.Mathlib.Nat.{le-refl, le-trans}
 use mathlib.Core.Path.{refl, sym}
 use lib.ListN.{replicate}
 use lib.Seq.{length-take-le}
-use Rattle.floor.specs.Batches.{entries}
+use Rattle.limits.specs.Batches.{entries}
 use Rattle.model.specs.Limits.{maxPoints}
 use Rattle.visibility.specs.Change.{Lent}
 use Rattle.visibility.proofs.UpdateLaws.{lentOf, reaches, update-finished, update-refused}

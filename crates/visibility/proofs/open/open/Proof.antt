@@ -4,9 +4,10 @@ use mathlib.Core.Bool.{false}
 use lib.Seq.{length-take-le}
 use borrow.Author.Needs.{needs}
 use Rattle.model.specs.Refusal.{badSize, short}
-use Rattle.visibility.specs.Holds.{Tables}
-use Rattle.visibility.specs.Holds as tables
-use Rattle.visibility.proofs.OpenLaws.{Enough, long-enough, open-done, open-radius, open-refused, open-short, open-size}
+use Rattle.held.specs.Holds.{Tables}
+use Rattle.held.specs.Holds as tables
+use Rattle.held.proofs.RoomLaws.{Enough, long-enough}
+use Rattle.visibility.proofs.OpenLaws.{open-done, open-radius, open-refused, open-short, open-size}
 use Rattle.visibility.proofs.open.open.Statement.{statement}
 use Rattle.visibility.proofs.open.open.Tie as tie
 

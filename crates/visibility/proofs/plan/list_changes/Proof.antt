@@ -5,8 +5,8 @@ use mathlib.Core.Path.{_≡_, sym}
 use lib.ListN.{length, take}
 use lib.Seq.{length-take-le}
 use borrow.Author.Needs.{needs}
-use Rattle.floor.specs.Batches.{entries}
 use Rattle.grid.proofs.ApplyLaws.{corners-listed}
+use Rattle.limits.specs.Batches.{entries}
 use Rattle.visibility.proofs.plan.list_changes.Statement.{statement}
 use Rattle.visibility.proofs.plan.list_changes.Tie as tie
 

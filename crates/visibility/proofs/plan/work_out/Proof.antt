@@ -3,7 +3,7 @@ use Prim.Native.Nat.{_≤_}
 use mathlib.Core.Path.{_≡_, sym, ap, _∙_}
 use lib.ListN.{length}
 use lib.Seq.{length-take-le}
-use Rattle.floor.specs.Batches.{entries}
+use Rattle.limits.specs.Batches.{entries}
 use Rattle.visibility.proofs.UpdateLaws.{planned, reaches}
 use Rattle.visibility.proofs.plan.work_out.Statement.{statement}
 use Rattle.visibility.proofs.plan.work_out.Tie as tie

@@ -6,8 +6,8 @@ use lib.ListN.{length, take}
 use lib.Seq.{length-take-le}
 use borrow.Author.Needs.{needs}
 use Rattle.model.specs.Refusal.{short}
-use Rattle.visibility.specs.Holds.{Tables}
-use Rattle.visibility.specs.Holds as tables
+use Rattle.held.specs.Holds.{Tables}
+use Rattle.held.specs.Holds as tables
 use Rattle.visibility.specs.Radius.{refuseRadius}
 use Rattle.visibility.proofs.RebuildLaws.{rebuild-cells, rebuild-done, rebuild-input, rebuild-packed, rebuild-points, rebuild-room}
 use Rattle.visibility.proofs.radius.change_radius.Statement.{statement}

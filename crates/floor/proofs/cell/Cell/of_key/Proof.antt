@@ -8,7 +8,7 @@ use mir.Syntax.{w64}
 use mir.Val.{SFits, toZ, ofZ}
 use mir.ValLaws.{toZ-ofZ}
 use Rattle.ieee.specs.Whole.{unbias}
-use Rattle.plane.proofs.CornerLaws.{column-back, column-fits}
+use Rattle.ieee.proofs.Unbiased.{column-back, column-fits}
 use Rattle.floor.proofs.cell.Cell.of_key.Statement.{statement}
 use Rattle.floor.proofs.cell.Cell.of_key.Tie as tie
 

@@ -1,0 +1,6 @@
+-- The laws of crate `held`.
+pub mod LayerLaws
+pub mod NamedLaws
+pub mod PadLaws
+pub mod PlaceLaws
+pub mod RoomLaws

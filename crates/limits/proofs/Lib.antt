@@ -1,0 +1,5 @@
+-- The laws of crate `limits`.
+pub mod EntryLaws
+pub mod RadiusLaws
+pub mod SignedLaws
+pub mod SizeLaws

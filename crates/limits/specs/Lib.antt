@@ -1,0 +1,2 @@
+-- What the contracts of crate `limits`, and of those above it, cite.
+pub mod Batches

@@ -1,0 +1,37 @@
+// Which cells a point may see (document 01, 'Points').
+use corner::status::Corner;
+use corner::status::CornerStatus;
+ghost use mathlib.Core.Path.{_≡_};
+ghost use Rattle.corner.specs.Corners.{dir};
+ghost use Rattle.model.specs.Corner.{Bits, number, quadrant, sees};
+
+// The corner of the signs of q - p, where neither is zero.
+fn quadrant(p: u64, q: u64) -> Corner
+    ensures { λ r. ⌜ dir r ≡ quadrant p q ⌝ }
+{
+    let north = p % 4294967296 < q % 4294967296;
+    if p / 4294967296 < q / 4294967296 {
+        if north {
+            return Corner::Northeast;
+        }
+        return Corner::Southeast;
+    }
+    if north {
+        return Corner::Northwest;
+    }
+    Corner::Southwest
+}
+
+// Whether p lies in the visible quadrant of q, which has this status.
+pub fn sees(p: u64, q: u64, status: u8) -> bool
+    ensures { λ r. ⌜ ((b : Bits) → status ≡ number b → r ≡ sees p q b) ⌝ }
+{
+    if p / 4294967296 == q / 4294967296 {
+        return true;
+    }
+    if p % 4294967296 == q % 4294967296 {
+        return true;
+    }
+    let bits = CornerStatus { bits: status };
+    !bits.get(quadrant(p, q))
+}

@@ -1,0 +1,2 @@
+-- What the contracts of crate `spot` cite.
+pub mod Edge
