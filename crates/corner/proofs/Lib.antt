@@ -5,6 +5,5 @@ pub mod ChangeLaws
 pub mod CornersLaws
 pub mod MetLaws
 pub mod RowLaws
-pub mod StatusLaws
 pub mod WindowLaws
 pub mod WordLaws

@@ -1,4 +1,4 @@
--- Examples that take longer to compute than those that stand beside the model. Each holds of the definitions.
+-- Examples that no edit of the model has to break: they stand apart, so that such an edit is refused sooner. Each holds of the definitions.
 use mathlib.Core.Path.{_≡_, refl}
 use Prim.Native.Nat.{ℕ}
 use mathlib.Core.List.{List, [], _∷_}
@@ -8,8 +8,8 @@ use Rattle.model.specs.Layer.{edge}
 use Rattle.model.specs.Map.{Op}
 use Rattle.model.specs.Refusal.{refusals, opened}
 use Rattle.model.specs.Listing.{listing}
-use Rattle.model.specs.Borders.{answers, updates, blockers, AllNamed}
-use Rattle.model.specs.Examples.{c, num, at, after, ten, tenAgain, workedFile, workedListing}
+use Rattle.model.specs.Borders.{answers, updates, blockers, files, AllNamed}
+use Rattle.model.specs.Examples.{c, num, at, after, ten, tenAgain, others, workedFile, workedListing, All}
 use Rattle.model.proofs.Examples.{everything}
 
 -- two runs of accepted operations, from the same opening to the same cells and radius, after which a pair is blocked and is not
@@ -43,3 +43,13 @@ updates-hold = (tt, (tt, (tt, tt)))
 pub blockers-hold : AllNamed blockers
 unfolding everything
 blockers-hold = (tt, (tt, (tt, tt)))
+
+-- Examples 9 and 10, which document 01 leaves to be run, hold too.
+pub examples-run : All others
+unfolding everything
+examples-run = (tt, (tt, tt))
+
+-- Damaged map files are refused with the right number at the right field.
+pub files-hold : AllNamed files
+unfolding everything
+files-hold = (tt, (tt, (tt, (tt, (tt, (tt, (tt, (tt, (tt, (tt, (tt, (tt, (tt, (tt, (tt, (tt, tt))))))))))))))))

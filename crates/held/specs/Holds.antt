@@ -4,6 +4,7 @@ use mathlib.Core.Path.{_≡_}
 use mathlib.Core.List.{List, [], _∷_}
 use lib.ListN.{drop, length}
 use Rattle.floor.specs.Floor as floor
+use Rattle.ieee.specs.Constants.{nought}
 use Rattle.model.specs.Good.{Good}
 use Rattle.model.specs.Limits.{maxCells, maxPoints}
 use Rattle.model.specs.Map as model
@@ -18,6 +19,10 @@ pub record Tables : Type 0 where
   pub statuses : List ℕ
   pub blockers : List ℕ
   pub pairs : List ℕ
+
+-- all zero: what a refused call gives
+abbrev pub noMap : Map
+noMap = record { size = nought; radius = nought; cells = 0; points = 0 }
 
 -- each length with its need
 abbrev pub needs : Tables → List (ℕ × ℕ)

@@ -1,7 +1,7 @@
 // Lists the map files on standard input, each behind its length in four bytes. An empty line follows each listing. What the Rust with ordered
 // maps gives is in the file stdout beside src/.
+use file_report::file::list_file;
 use libc::STDOUT_FILENO;
-use report::file::list_file;
 ghost use mathlib.Core.Path.{_≡_};
 ghost use Prim.Native.Nat.{_<_};
 

@@ -22,9 +22,10 @@ use Rattle.model.specs.Refusal.{judge, refusal, short, step, unless}
 use Rattle.visibility.specs.Change.{Changing, Lent, lentNeeds}
 use Rattle.held.specs.Holds.{Holds, Tables, needs}
 use Rattle.visibility.specs.declared.change.Changed.{Changed}
-use Rattle.mapfile.specs.Reads.{HoldsReader, Took, movedOn}
-use Rattle.mapfile.specs.declared.reader.Reader.{Reader}
-use Rattle.mapfile.specs.declared.reader.Reading.{Reading}
+use Rattle.mapfile.specs.Reads.{HoldsReader, Took}
+use Rattle.reader.specs.Moves.{movedOn}
+use Rattle.reader.specs.declared.state.Reader.{Reader}
+use Rattle.reader.specs.declared.state.Reading.{Reading}
 use Rattle.mapfile.proofs.TakeLaws.{holds-at, not-zero, took-more, took-refused}
 
 -- ---- the numbers of good entries are those entries

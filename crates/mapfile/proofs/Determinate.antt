@@ -15,8 +15,8 @@ use Rattle.visibility.proofs.Determinate.{holds-one}
 use Rattle.held.specs.Holds.{Holds, Tables, needs}
 use Rattle.held.specs.declared.map.Map.{Map}
 use Rattle.mapfile.specs.Reads.{FieldRead, HoldsMap, HoldsReader, Left, LeftAt, Says}
-use Rattle.mapfile.specs.declared.reader.Reader.{Reader}
-use Rattle.mapfile.specs.declared.reader.Reading.{Reading}
+use Rattle.reader.specs.declared.state.Reader.{Reader}
+use Rattle.reader.specs.declared.state.Reading.{Reading}
 
 -- ---- structs that hold one reader
 back : model.Expected → Expected

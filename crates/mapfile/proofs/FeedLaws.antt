@@ -22,9 +22,10 @@ use Rattle.held.proofs.PadLaws.{padded-room}
 use Rattle.held.specs.Holds.{Holds, Tables, needs}
 use Rattle.held.specs.declared.map.Map.{Map}
 use Rattle.mapfile.specs.Feeds.{EndsAs, Feeds, fill, on, stop-done, stop-refused}
-use Rattle.mapfile.specs.Reads.{HoldsMap, HoldsReader, LeftAt, begun}
-use Rattle.mapfile.specs.declared.reader.Reader.{Reader}
-use Rattle.mapfile.specs.declared.reader.Reading.{Reading}
+use Rattle.mapfile.specs.Reads.{HoldsMap, HoldsReader, LeftAt}
+use Rattle.reader.specs.Moves.{begun}
+use Rattle.reader.specs.declared.state.Reader.{Reader}
+use Rattle.reader.specs.declared.state.Reading.{Reading}
 
 -- ---- each field that is taken has the next number
 abbrev Next : ℕ → model.Reading → Type 0

@@ -17,8 +17,8 @@ use Rattle.model.specs.MapFile.{badFlag, entryBytes, oneField, stopped, takeBat
 use Rattle.model.specs.Refusal.{short}
 use Rattle.held.specs.Holds.{Tables, needs}
 use Rattle.mapfile.specs.Reads.{FieldRead, HoldsReader, Left, Says, Took, stoppedAs, stoppedAt}
-use Rattle.mapfile.specs.declared.reader.Reader.{Reader}
-use Rattle.mapfile.specs.declared.reader.Reading.{Reading}
+use Rattle.reader.specs.declared.state.Reader.{Reader}
+use Rattle.reader.specs.declared.state.Reading.{Reading}
 use Rattle.mapfile.proofs.TakeLaws.{holds-at, no-more}
 
 -- ---- a head that is read, by its number

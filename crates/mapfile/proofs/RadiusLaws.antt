@@ -16,9 +16,10 @@ use Rattle.visibility.proofs.OpenLaws.{open-passes, open-radius}
 use Rattle.held.specs.Holds.{Holds, Tables, needs}
 use Rattle.visibility.specs.Open.{Opening}
 use Rattle.held.specs.declared.map.Outcome.{Outcome}
-use Rattle.mapfile.specs.Reads.{HoldsReader, Took, movedOn}
-use Rattle.mapfile.specs.declared.reader.Reader.{Reader}
-use Rattle.mapfile.specs.declared.reader.Reading.{Reading}
+use Rattle.mapfile.specs.Reads.{HoldsReader, Took}
+use Rattle.reader.specs.Moves.{movedOn}
+use Rattle.reader.specs.declared.state.Reader.{Reader}
+use Rattle.reader.specs.declared.state.Reading.{Reading}
 use Rattle.mapfile.proofs.TakeLaws.{Goes, holds-at, not-zero, took-more, took-refused}
 
 -- where no table is short and the size is good, an opening is refused by the radius alone

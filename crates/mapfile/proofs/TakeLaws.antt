@@ -15,9 +15,10 @@ use Rattle.model.specs.MapFile.{float64, takeEnd, takeSize}
 use Rattle.model.specs.Refusal.{badSize, nothing, short}
 use Rattle.held.specs.Holds.{Tables, needs}
 use Rattle.held.specs.declared.map.Map.{Map}
-use Rattle.mapfile.specs.Reads.{HoldsMap, HoldsReader, LeftAt, Took, movedOn, sizeTaken}
-use Rattle.mapfile.specs.declared.reader.Reader.{Reader}
-use Rattle.mapfile.specs.declared.reader.Reading.{Reading}
+use Rattle.mapfile.specs.Reads.{HoldsMap, HoldsReader, LeftAt, Took, sizeTaken}
+use Rattle.reader.specs.Moves.{movedOn}
+use Rattle.reader.specs.declared.state.Reader.{Reader}
+use Rattle.reader.specs.declared.state.Reading.{Reading}
 
 -- ---- answers are told apart
 pub no-more : (n f u : ℕ) (r : Reader) → Reading.Refused n f ≡ Reading.More r u → ⊥

@@ -1,31 +1,23 @@
 -- One field of a map file taken over a state, into a map's lent tables (document 01, 'Map file and listing'; the model's `oneField`). Definitions only.
-use Prim.Native.Nat.{ℕ, suc, _+_, _*_, _/_, _%_, _^_, _≤_, _<_}
+use Prim.Native.Nat.{ℕ, suc, _*_, _/_, _^_, _≤_, _<_}
 use mathlib.Core.Path.{_≡_}
 use mathlib.Core.Bool.{true, false, cond}
 use mathlib.Core.List.{List}
-use lib.Ieee.{Float}
 use lib.ListN.{drop, length, take}
 use Rattle.fields.specs.Fields.{expectedOf}
 use Rattle.fields.specs.declared.head.Expected.{Expected}
-use Rattle.ieee.specs.Constants.{nought}
 use Rattle.model.specs.Limits.{maxBatch}
 use Rattle.model.specs.Map as map
 use Rattle.model.specs.MapFile as model
 use Rattle.model.specs.MapFile.{badFlag, entryBytes, float64, oneField, takeBatch, takeRadius}
 use Rattle.model.specs.Refusal.{badSize, short}
-use Rattle.held.specs.Holds.{Behind, Holds, Tables, needs}
-use Rattle.visibility.specs.Open.{noMap}
+use Rattle.held.specs.Holds.{Behind, Holds, Tables, needs, noMap}
 use Rattle.held.specs.declared.map.Map.{Map}
-use Rattle.mapfile.specs.declared.reader.Reader.{Reader}
-use Rattle.mapfile.specs.declared.reader.Reading.{Reading}
+use Rattle.reader.specs.Moves.{movedOn}
+use Rattle.reader.specs.declared.state.Reader.{Reader}
+use Rattle.reader.specs.declared.state.Reading.{Reading}
 
 -- ---- the state
-abbrev pub begun : Reader
-begun = record { expected = Expected.Size; field = 0; size = nought; map = noMap }
-
-abbrev pub movedOn : Reader → Expected → Float → Map → Reader
-movedOn r e c m = record { expected = e; field = (r .field + 1) % 2 ^ 64; size = c; map = m }
-
 -- what is known of the map by what is expected: there is none before field 02 was taken, and the cell size is good once field 01 was
 abbrev pub HoldsMap : model.Expected → Map → Tables → model.Reader → Type 0
 HoldsMap model.size m t R = m ≡ noMap

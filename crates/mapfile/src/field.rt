@@ -1,13 +1,13 @@
 // One field of a map file.
-use crate::reader::Reader;
-use crate::reader::Reading;
-use crate::reader::onward;
 use answers::judge::lacks;
 use fields::head::Expected;
 use fields::head::read_head;
 use fields::value::float_at;
 use fields::value::numbers_of;
 use limits::judge::bad_size;
+use reader::state::Reader;
+use reader::state::Reading;
+use reader::state::onward;
 use visibility::change::change_cells;
 use visibility::open::open;
 ghost use mathlib.Core.Path.{_≡_};

@@ -1,9 +1,9 @@
 // What is kept of a key while marks are made at it.
-use corner::status::Corner;
-use corner::status::CornerStatus;
+use corner_bits::Corner;
+use corner_bits::CornerStatus;
 ghost use mathlib.Core.Path.{_≡_};
 ghost use Prim.Native.Nat.{ℕ, _<_};
-ghost use Rattle.corner.specs.Corners.{dir};
+ghost use Rattle.corner_bits.specs.Corners.{dir};
 ghost use Rattle.marks.specs.Standing.{Small, Standing, marked, mood, word};
 
 // Its status; one more than its place among the old points, or 0; one more than the number of the first mark that

@@ -36,11 +36,6 @@ pub examples : All table
 unfolding everything
 examples = (tt, (tt, (tt, (tt, (tt, (tt, (tt, (tt, (tt, tt)))))))))
 
--- Examples 9 and 10, which document 01 leaves to be run, hold too.
-pub examples-run : All others
-unfolding everything
-examples-run = (tt, (tt, tt))
-
 -- The tests, limits and blocks are right where a wrong definition would still look right.
 pub borders-hold : AllNamed borders
 unfolding everything
@@ -50,8 +45,3 @@ borders-hold = (tt, (tt, (tt, (tt, (tt, (tt, (tt, (tt, (tt, (tt, tt))))))))))
 pub counts-hold : AllNamed counts
 unfolding everything
 counts-hold = (tt, tt)
-
--- Damaged map files are refused with the right number at the right field.
-pub files-hold : AllNamed files
-unfolding everything
-files-hold = (tt, (tt, (tt, (tt, (tt, (tt, (tt, (tt, (tt, (tt, (tt, (tt, (tt, (tt, (tt, (tt, tt))))))))))))))))

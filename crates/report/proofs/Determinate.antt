@@ -1,14 +1,12 @@
 -- Any two outcomes that a listing's contract permits are equal. Assumes nothing.
 use Prim.Native.Nat.{ℕ}
-use mathlib.Core.Path.{_≡_, refl, sym, _∙_}
+use mathlib.Core.Path.{_≡_, refl}
 use mathlib.Core.Bool.{false}
 use mathlib.Core.List.{List, [], _∷_}
-use mathlib.Core.Logic.{⊎-elim}
 use lib.ListN.{length}
 use Rattle.answers.proofs.ListingLaws.{Settled, list-one}
 use Rattle.answers.specs.Asking.{HoldsSome, Listing, Output, refuseMap}
 use Rattle.answers.specs.declared.judge.Count.{Count}
-use Rattle.ieee.proofs.Tools.{lt-or-ge}
 use Rattle.model.specs.Limits.{maxCells, maxPoints}
 use Rattle.model.specs.Listing.{listed}
 use Rattle.model.specs.Map as model
@@ -16,7 +14,7 @@ use Rattle.model.specs.MapFile.{done}
 use Rattle.model.specs.Refusal.{short}
 use Rattle.held.specs.Pairs.{pairPlaces}
 use Rattle.held.specs.declared.map.Map.{Map}
-use Rattle.report.specs.Reported.{Listed, needListing}
+use Rattle.report.specs.Reported.{needListing}
 
 -- ---- `list_map`, of a map that is held, or that is refused whatever the tables hold
 module _ (m : Map) (cells points statuses blockers pairs out : List ℕ) where
@@ -36,9 +34,3 @@ module _ (m : Map) (cells points statuses blockers pairs out : List ℕ) where
   list-map-one o₁ o₂ r q u v s =
       let e = list-one mapDue MapHeld _ _ _ _ r q (refl, refl, tt) u v s in
       (e .0, e .1 .0)
-
--- ---- `list_file`, of any bytes
-pub list-file-one : (b o o₁ o₂ : List ℕ) (r q : Count) → Listed b o o₁ r → Listed b o o₂ q → (r ≡ q) × (o₁ ≡ o₂)
-list-file-one b o o₁ o₂ r q u v =
-    ⊎-elim (λ h. (u .short h .0 ∙ sym (v .short h .0), u .short h .1 ∙ sym (v .short h .1))) (λ h. (u .done h .0 ∙ sym (v .done h .0), u .done h .1 ∙ sym (v .done h .1)))
-    (lt-or-ge (length o) needListing)

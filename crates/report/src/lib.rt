@@ -1,4 +1,3 @@
-// Listings: of a map, and of the bytes of a map file.
+// The listing of a map.
 mod counts;
-pub mod file;
 pub mod map;

@@ -10,8 +10,8 @@ use Rattle.limits.specs.Batches.{entries}
 use Rattle.model.specs.Refusal.{badSize, judge, nothing, opened, refuseOpen, run, short, step, unless}
 use Rattle.model.proofs.RunLaws.{passed}
 use Rattle.visibility.specs.Change.{Lent, lentNeeds}
-use Rattle.held.specs.Holds.{Holds, Tables, needs}
-use Rattle.visibility.specs.Open.{Opening, noMap}
+use Rattle.held.specs.Holds.{Holds, Tables, needs, noMap}
+use Rattle.visibility.specs.Open.{Opening}
 use Rattle.visibility.specs.Run.{Batched, Called, Calls, Resized, State, goesOn}
 use Rattle.visibility.specs.declared.change.Changed.{Changed}
 use Rattle.held.specs.declared.map.Map.{Map}

@@ -14,8 +14,7 @@ use Rattle.model.specs.Limits.{maxBatch, maxCells, maxPoints, needConfirmed, ne
 use Rattle.model.specs.Map as model
 use Rattle.model.specs.Refusal.{badRadius, badSize, judge, outside, short, unsorted, verdict}
 use Rattle.table.specs.Listed.{Listed}
-use Rattle.held.specs.Holds.{Behind, Holds, Tables, needs}
-use Rattle.visibility.specs.Open.{noMap}
+use Rattle.held.specs.Holds.{Behind, Holds, Tables, needs, noMap}
 use Rattle.visibility.specs.declared.change.Changed.{Changed}
 use Rattle.held.specs.declared.map.Map.{Map}
 

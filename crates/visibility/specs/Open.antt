@@ -2,16 +2,10 @@
 use Prim.Native.Nat.{ℕ, suc}
 use mathlib.Core.Path.{_≡_}
 use lib.Ieee.{Float}
-use Rattle.ieee.specs.Constants.{nought}
 use Rattle.model.specs.Map.{fresh}
 use Rattle.model.specs.Refusal.{refuseOpen}
-use Rattle.held.specs.Holds.{Behind, Holds, Tables, needs}
-use Rattle.held.specs.declared.map.Map.{Map}
+use Rattle.held.specs.Holds.{Behind, Holds, Tables, needs, noMap}
 use Rattle.held.specs.declared.map.Outcome.{Outcome}
-
--- all zero: what a refused call gives
-abbrev pub noMap : Map
-noMap = record { size = nought; radius = nought; cells = 0; points = 0 }
 
 -- a refused call answers its number, and all else is zero
 abbrev pub refusedWith : ℕ → Outcome

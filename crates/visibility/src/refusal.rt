@@ -2,7 +2,8 @@
 use held::map::Map;
 use held::map::Outcome;
 ghost use mathlib.Core.Path.{_≡_};
-ghost use Rattle.visibility.specs.Open.{noMap, refusedWith};
+ghost use Rattle.held.specs.Holds.{noMap};
+ghost use Rattle.visibility.specs.Open.{refusedWith};
 
 // All zero.
 pub(crate) fn no_map() -> Map

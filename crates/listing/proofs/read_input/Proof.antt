@@ -5,7 +5,7 @@ use native.Mathlib.Omega.{arith}
 use mathlib.Core.Path.{_≡_, _∙_, refl}
 use mathlib.Core.List.{List}
 use lib.ListN.{drop, length, length-take, take}
-use Rattle.report.proofs.FileLaws.{SameLong, same-both, same-none}
+use Rattle.held.proofs.RoomLaws.{SameLong, same-both, same-none}
 use Rattle.held.specs.Holds.{Tables}
 use Rattle.listing.proofs.read_input.Statement.{statement}
 use Rattle.listing.proofs.read_input.Tie as tie

@@ -1,0 +1,2 @@
+-- The laws of crate `corner_bits`.
+pub mod StatusLaws

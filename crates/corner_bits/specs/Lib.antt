@@ -1,0 +1,2 @@
+-- What the contracts of crate `corner_bits` cite.
+pub mod Corners

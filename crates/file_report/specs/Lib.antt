@@ -1,0 +1,2 @@
+-- What the contracts of crate `file_report` cite.
+pub mod Filed

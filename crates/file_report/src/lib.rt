@@ -1,0 +1,2 @@
+// The listing of the bytes of a map file.
+pub mod file;

@@ -1,0 +1,2 @@
+-- What the contracts of crate `reader` cite.
+pub mod Moves
