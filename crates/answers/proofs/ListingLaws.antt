@@ -74,3 +74,11 @@ Settled n Hold = ((M : model.Map) × Hold M) ⊎ ((k : ℕ) × (n ≡ suc k))
 module _ (n : ℕ) (Hold : model.Map → Type 0) where
   pub list-one : (o p : Output) (os ps : List Output) (r q : Count) → Alike (o ∷ os) (p ∷ ps) → Listing n Hold (o ∷ os) r → Listing n Hold (p ∷ ps) q → Settled n Hold → (r ≡ q) × Equal (o ∷ os) (p ∷ ps)
   list-one o p os ps r q a u v = ⊎-elim (λ h. listing-one n Hold o p os ps r q a u v (h .0) (h .1)) (λ k. refused-one n Hold o p os ps r q a u v (k .0) (k .1))
+
+  -- two that agree where n is a refusal, and where it is none
+  pub settled-one : {A : Type 0} (r q : A) → ((k : ℕ) → n ≡ suc k → r ≡ q) → ((M : model.Map) → Hold M → n ≡ 0 → r ≡ q) → Settled n Hold → r ≡ q
+  settled-one {A} r q f g = ⊎-elim (λ h. go (h .0) (h .1) n refl) (λ k. f (k .0) (k .1))
+    where
+      go : (M : model.Map) → Hold M → (k : ℕ) → n ≡ k → r ≡ q
+      go M h zero e = g M h e
+      go M h (suc k) e = f k e

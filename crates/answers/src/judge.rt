@@ -2,7 +2,7 @@
 use floor::cell::Cell;
 use held::map::Map;
 use limits::judge::bad_size;
-use limits::radius::bad_radius;
+use radii::radius::bad_radius;
 ghost use mathlib.Core.Path.{_≡_};
 ghost use mathlib.Core.Bool.{_||_};
 ghost use lib.Dec.{ltb};

@@ -1,14 +1,14 @@
 // The question of four shapes under a C name.
 use floor::cell::Cell;
 use held::map::Map;
-use occupied::ask::ask;
+use map_questions::ask::ask;
 use plane::point::Point;
 use question::search::Question;
 use questions::ask::Answer;
 use questions::ask::Place;
 ghost use mathlib.Core.Path.{_≡_};
 ghost use Rattle.ask_c.specs.Told.{foundOf, questionOf};
-ghost use Rattle.occupied.specs.Lists.{Asks};
+ghost use Rattle.map_questions.specs.Asks.{Asks};
 ghost use Rattle.questions.specs.declared.ask.Answer.{Answer};
 
 // The refusal's number, whether a cell was found, and the cell; all else is zero where there is none.

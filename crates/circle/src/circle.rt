@@ -107,10 +107,6 @@ impl Circle {
         if self.far <= far {
             return false;
         }
-        self.sides_inside(
-            dp,
-            cell::low_corner(cell, size),
-            cell::high_corner(cell, size),
-        )
+        self.sides_inside(dp, cell::corner(cell, 0, size), cell::corner(cell, 3, size))
     }
 }

@@ -10,6 +10,8 @@ use lib.ListN.{length, take, getD}
 use Rattle.model.specs.Batch.{Batch, cornerChanges}
 use Rattle.model.specs.Cell.{W, around}
 use Rattle.model.specs.Corner.{Bits, number, sameBits, statusOf}
+use Rattle.model.specs.Good.{Inside}
+use Rattle.model.specs.Limits.{maxCoordinate}
 use Rattle.model.specs.Maps.{has, keys}
 use Rattle.table.specs.Listed.{Listed}
 use Rattle.table.specs.Tables.{All}
@@ -30,6 +32,10 @@ gathered-same f g (suc n) s = rw (gathered-same f g n (λ i h. s i (omega arith)
 numbered-append : (l m : List (ℕ × Bits)) → numbered (l ++ m) ≡ numbered l ++ numbered m
 numbered-append [] m = refl
 numbered-append (x ∷ l) m = ap (λ (r : List (ℕ × ℕ)). (x .0, number (x .1)) ∷ r) (numbered-append l m)
+
+pub numbered-count : (l : List (ℕ × Bits)) → length (numbered l) ≡ length l
+numbered-count [] = refl
+numbered-count (e ∷ l) = ap suc (numbered-count l)
 
 pub numbered-gathered : (f : ℕ → List (ℕ × Bits)) (n : ℕ) → numbered (gathered f n) ≡ gathered (λ i. numbered (f i)) n
 unfolding gathered
@@ -146,6 +152,9 @@ module _ (C K C′ : List ℕ) (i low n m : ℕ) (g : Given C K C′) (h : i < l
       → (sw ≡ southwests now) × (se ≡ southeasts now) × (nw ≡ northwests now) × (ne ≡ northeasts now) → met ≡ beside (m % 4096)
       → new ≡ differing sw₀ sw se₀ se nw₀ nw ne₀ ne met → gathered (pickedAt low new sw se nw ne) 9 ≡ numbered (freshAt C C′ K i)
   words-fresh sw₀ se₀ nw₀ ne₀ sw se nw ne met new was is b f = rw (f, was .0, was .1, was .2, was .3, is .0, is .1, is .2, is .3, b) nine-fresh
+
+pub inside-inner : (k : ℕ) → Inside maxCoordinate k → Inner k
+inside-inner k h = (omega arith, omega arith)
 
 pub given-inner : (C K C′ : List ℕ) (i : ℕ) → Given C K C′ → i < length K → Inner (getD K i 0)
 given-inner C K C′ i g h = all-at Inner K i (g .inner) h

@@ -10,7 +10,7 @@ use lib.ListN.{drop, drop-of-length-le, getD, length, set, take}
 use lib.Seq.{drop-cons, length-take-le}
 use Rattle.answers.specs.Asking.{Written}
 use Rattle.copy.specs.Copied.{Copied}
-use Rattle.grid.proofs.ListedLaws.{keys-at}
+use Rattle.table.proofs.ListedLaws.{keys-at}
 use Rattle.held.proofs.LayerLaws.{codes-count, layer-blocks, layer-few, layer-keys, layer-statuses, statuses-length}
 use Rattle.held.specs.Layers.{blocksOf, statusesOf}
 use Rattle.model.specs.Answers.{free, freePoints}

@@ -1,5 +1,6 @@
 -- What the tables tell of the pair of two points, and the pairs of a point one after another. Assumes nothing.
 use Prim.Native.Nat.{ℕ, zero, suc, _+_, _*_, _≤_, _<_}
+use native.Mathlib.Nat.{suc-ne-zero}
 use native.Mathlib.Numerals.{add-one}
 use native.Mathlib.Omega.{arith}
 use mathlib.Core.Path.{_≡_, refl, sym, ap, _∙_}
@@ -9,7 +10,6 @@ use mathlib.Core.Option.{Option, none, some}
 use lib.ListN.{drop, drop-of-length-le, getD, length}
 use lib.Seq.{drop-cons}
 use borrow.Author.Tests.{lt-ltb}
-use Rattle.grid.proofs.RefuseLaws.{apart}
 use Rattle.model.specs.Answers.{free, freeAt, isOpen}
 use Rattle.model.specs.Layer.{Edges, Layer, Pair, Points, edge, pairOf, pairs, pairsFrom}
 use Rattle.model.specs.Maps.{get, keys, sift}
@@ -187,7 +187,7 @@ module _ (l : Layer) (points blockers table : List ℕ) (s : ShownOpen l points 
         let c = code l points table (s .shown) i j hi hj in
         let b = one-free (edgeOf l i j) (named l points table (s .shown) i j hi hj) (sym c ∙ e) in
         kept-next l points table (s .shown) i j hi hj K (pairAt l i j ∷ [])
-        (kept-one K (keyAt l i) (keyAt l j) (edgeOf l i j) (λ z. apart (sym e ∙ c ∙ z)) (rw (b, is-free i hi x, is-free j hj y) refl))
+        (kept-one K (keyAt l i) (keyAt l j) (edgeOf l i j) (λ z. suc-ne-zero _ (sym e ∙ c ∙ z)) (rw (b, is-free i hi x, is-free j hj y) refl))
 
     -- a pair that is none, or that something blocks
     pub reads-other : (getD table (64 * i + j) 0 ≡ 1 → ⊥) → sift K (rowFrom l i j) ≡ sift K (rowFrom l i (j + 1))

@@ -1,5 +1,6 @@
 -- What a call of `change_cells` answers and leaves, refused early, refused for its cells, or done. Assumes nothing.
 use Prim.Native.Nat.{ℕ, _≤_, _<_}
+use native.Mathlib.Nat.{suc-ne-zero}
 use mathlib.Core.Path.{_≡_, sym, ap, _∙_, subst}
 use mathlib.Core.Bool.{Bool, false, cond}
 use mathlib.Core.List.{List}
@@ -18,7 +19,7 @@ use Rattle.floor.specs.Floor.{Holds}
 use Rattle.grid.specs.declared.change.Changed.{Changed}
 use Rattle.floor.specs.declared.floor.Floor.{Floor}
 use Rattle.floor.proofs.FloorLaws.{holds-cells}
-use Rattle.grid.proofs.RefuseLaws.{Passed, apart, change-early, change-passed, long-enough}
+use Rattle.grid.proofs.RefuseLaws.{Passed, change-early, change-passed, long-enough}
 
 module _ (floor : Floor) (b : List ℤ) (t t′ : Lent) (r : Changed) where
   abbrev with-crowd : Bool → ℕ
@@ -61,20 +62,20 @@ module _ (floor : Floor) (b : List ℤ) (t t′ : Lent) (r : Changed) where
 
       pub late-refused : maxCells < k → r ≡ refusedWith 6 → t′ ≡ t → Changing floor b t t′ r
       late-refused g f w = record {
-        input = λ n z. absurd (apart (sym z ∙ sym e));
+        input = λ n z. absurd (suc-ne-zero _ (sym z ∙ sym e));
         refusal = λ C h.
             number 6 f
             ∙ sym (passed .later (ltb maxCells (length (after C))) ∙ ap (λ (v : Bool). cond v 6 0) (lt-ltb maxCells (length (after C)) (subst (λ (n : ℕ). maxCells < n) (counted C h) g)));
         refused = λ n z. (w, f ∙ ap refusedWith (sym (number 6 f) ∙ z));
-        done = λ C h z. absurd (apart (sym (number 6 f) ∙ z));
+        done = λ C h z. absurd (suc-ne-zero _ (sym (number 6 f) ∙ z));
       }
 
       pub accepted : k ≤ maxCells → r .refusal ≡ 0
           → ((C : List ℕ) → Applying (t .cells) (floor .cells) C (entries b) (length (t .corners)) (length (t .statuses)) → Done floor C (entries b) t t′ r) → Changing floor b t t′ r
       accepted g z d = record {
-        input = λ n y. absurd (apart (sym y ∙ sym e));
+        input = λ n y. absurd (suc-ne-zero _ (sym y ∙ sym e));
         refusal = λ C h. z ∙ sym (passed .later (ltb maxCells (length (after C))) ∙ ap (λ (v : Bool). cond v 6 0) (le-ltb maxCells (length (after C)) (fits C h)));
-        refused = λ n y. absurd (apart (sym y ∙ z));
+        refused = λ n y. absurd (suc-ne-zero _ (sym y ∙ z));
         done = λ C h y. d C (record {
           holds = h;
           few = passed .few;

@@ -1,5 +1,6 @@
 -- A batch's refusals in their order. Assumes nothing.
 use Prim.Native.Nat.{ℕ, suc, _≤_, _<_}
+use native.Mathlib.Nat.{suc-ne-zero}
 use native.Mathlib.Omega.{arith}
 use mathlib.Core.Path.{_≡_, refl, sym, ap, _∙_}
 use mathlib.Core.Bool.{Bool, true, false, cond, _||_, or-false, true≢false}
@@ -12,9 +13,6 @@ use Rattle.model.specs.Map.{Entry}
 use Rattle.model.specs.Refusal.{firstOf, verdict, short, badSize, unsorted, outside}
 use Rattle.limits.specs.Batches.{refuseBatch}
 use Rattle.grid.specs.Change.{refuseChange, shortOf}
-
-pub apart : {k : ℕ} → suc k ≡ 0 → ⊥
-apart e = omega arith
 
 -- ---- 9: the first table that is short
 module _ (a b c d e : ℕ) where
@@ -96,9 +94,9 @@ module _ (s : Bool) (c : Float) (l : List Entry) (w : Bool) where
       change-last n g z = go (ltb 256 (length l)) (unsorted l) (outside l) (sym batch-turn ∙ sym g ∙ z) ∙ sym known
         where
           go : (x y v : Bool) → batchThen x y v 0 ≡ 0 → _≡_ {A = ℕ} (cond w 6 0) (batchThen x y v (cond w 6 0))
-          go true y v h = absurd (apart h)
-          go false true v h = absurd (apart h)
-          go false false true h = absurd (apart h)
+          go true y v h = absurd (suc-ne-zero _ h)
+          go false true v h = absurd (suc-ne-zero _ h)
+          go false false true h = absurd (suc-ne-zero _ h)
           go false false false h = refl
 
 -- what is not refused by the input alone: nothing is due but, with another number of cells, 6
@@ -114,12 +112,12 @@ pub change-passed : (s : Bool) (c : Float) (l : List Entry) (w : Bool) → refus
 change-passed s c l w z = go s (badSize c) (ltb 256 (length l)) (unsorted l) (outside l) w refl refl refl refl refl refl (sym (in-turn s c l w) ∙ z)
   where
     go : (a b x y v u : Bool) → s ≡ a → badSize c ≡ b → ltb 256 (length l) ≡ x → unsorted l ≡ y → outside l ≡ v → w ≡ u → _≡_ {A = ℕ} (cond a 9 (cond b 1 (batchThen x y v (cond u 6 0)))) 0 → Passed s c l w
-    go true b x y v u p q r o t i h = absurd (apart h)
-    go false true x y v u p q r o t i h = absurd (apart h)
-    go false false true y v u p q r o t i h = absurd (apart h)
-    go false false false true v u p q r o t i h = absurd (apart h)
-    go false false false false true u p q r o t i h = absurd (apart h)
-    go false false false false false true p q r o t i h = absurd (apart h)
+    go true b x y v u p q r o t i h = absurd (suc-ne-zero _ h)
+    go false true x y v u p q r o t i h = absurd (suc-ne-zero _ h)
+    go false false true y v u p q r o t i h = absurd (suc-ne-zero _ h)
+    go false false false true v u p q r o t i h = absurd (suc-ne-zero _ h)
+    go false false false false true u p q r o t i h = absurd (suc-ne-zero _ h)
+    go false false false false false true p q r o t i h = absurd (suc-ne-zero _ h)
     go false false false false false false p q r o t i h = record { long = p; few = ltb-false 256 (length l) r; order = o; bounds = t; crowd = i; later = λ n. in-turn s c l n ∙ rw (p, q, r, o, t) refl }
 
 -- a refusal that is due before the cells are counted is due whatever they come to

@@ -1,7 +1,7 @@
 // A batch on a floor, whole: judged first, then committed. A refusal alters nothing.
-use crate::batch::commit;
-use crate::batch::confirm;
-use crate::batch::count_after;
+use batches::batch::commit;
+use batches::batch::confirm;
+use batches::batch::count_after;
 use corners::changes::corner_changes;
 use floor::floor::Floor;
 use limits::judge::bad_size;

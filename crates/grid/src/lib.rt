@@ -1,3 +1,2 @@
-// Cells, and batches on them (the Rust's sparse_grid.rs).
-pub mod batch;
+// A batch on a floor (the Rust's sparse_grid.rs).
 pub mod change;

@@ -1,5 +1,4 @@
 -- The laws of crate `limits`.
 pub mod EntryLaws
-pub mod RadiusLaws
 pub mod SignedLaws
 pub mod SizeLaws

@@ -41,7 +41,7 @@ fn off_map(z: i64) -> bool
 
 // 4: whether some entry does not come after the one before it. An entry is three numbers, x, y, and 0 for free
 // or any other number for occupied; what is left over at the end is none.
-pub fn unsorted(batch: &[i64]) -> bool
+fn unsorted(batch: &[i64]) -> bool
     ensures { λ r. ⌜ r ≡ unsorted (entries (now (batch .entry))) ⌝ }
 {
     let mut i = 0;
@@ -55,7 +55,7 @@ pub fn unsorted(batch: &[i64]) -> bool
 }
 
 // 5: whether some coordinate is beyond 1,048,576 either way.
-pub fn outside(batch: &[i64]) -> bool
+fn outside(batch: &[i64]) -> bool
     ensures { λ r. ⌜ r ≡ outside (entries (now (batch .entry))) ⌝ }
 {
     let mut i = 0;

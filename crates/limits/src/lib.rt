@@ -1,3 +1,2 @@
-// What is refused of a cell size, a radius and a batch before anything is tried, and how far a radius reaches.
+// What is refused of a cell size and a batch before anything is tried.
 pub mod judge;
-pub mod radius;

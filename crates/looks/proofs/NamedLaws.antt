@@ -11,7 +11,7 @@ use Rattle.model.specs.Map.{tests}
 use Rattle.model.specs.Plane.{centre}
 use Rattle.model.specs.Shape.{Question, ask, square, sweep}
 use Rattle.model.proofs.QuestionLaws.{ask-has}
-use Rattle.grid.proofs.SetLaws.{has-all}
+use Rattle.table.proofs.AllLaws.{has-all}
 use Rattle.table.specs.Tables.{All}
 use Rattle.held.specs.Codes.{Named}
 use Rattle.held.proofs.NamedLaws.{inside-named}

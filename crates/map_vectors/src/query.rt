@@ -8,7 +8,7 @@
 use crate::write::answer_count;
 use crate::write::write_cells;
 use held::map::Map;
-use occupied::ask::ask;
+use map_questions::ask::ask;
 use occupied::cells::is_occupied;
 use question_vectors::answer_place;
 use question_vectors::cell_at;

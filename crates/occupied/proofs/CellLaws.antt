@@ -13,27 +13,17 @@ use Rattle.copy.specs.Copied.{Copied}
 use Rattle.corner.specs.Changes.{Cornered, numbered}
 use Rattle.floor.proofs.FloorLaws.{holds-cells}
 use Rattle.floor.specs.Floor as floor
-use Rattle.grid.proofs.ApplyLaws.{inside-inner}
-use Rattle.model.specs.Answers.{corners, isOccupied, occupiedCells, question}
+use Rattle.corner.proofs.ChangeLaws.{inside-inner}
+use Rattle.model.specs.Answers.{corners, isOccupied, occupiedCells}
 use Rattle.model.specs.Cell.{key}
 use Rattle.model.specs.Corner.{cornerCells}
-use Rattle.model.specs.Good.{Inside}
-use Rattle.model.specs.Limits.{maxCells, maxCoordinate}
+use Rattle.model.specs.Limits.{maxCells}
 use Rattle.model.specs.Map as model
 use Rattle.model.specs.Maps.{AscL, has, keys}
 use Rattle.model.specs.Refusal.{short}
-use Rattle.model.specs.Shape.{ask}
-use Rattle.question.specs.Question.{asked}
-use Rattle.question.specs.Walk.{found, foundAs}
-use Rattle.question.specs.declared.search.Found.{Found}
-use Rattle.question.specs.declared.search.Question.{Question}
-use Rattle.questions.proofs.AskLaws.{search-placed}
-use Rattle.questions.specs.Ask.{cellAt, placed}
-use Rattle.questions.specs.declared.ask.Place.{Place}
 use Rattle.table.proofs.AllLaws.{all-map}
 use Rattle.table.proofs.ListedLaws.{keys-length, values-length}
 use Rattle.table.specs.Listed.{values}
-use Rattle.table.specs.Tables.{All}
 use Rattle.held.specs.declared.map.Map.{Map}
 use Rattle.occupied.specs.Lists.{Lent}
 
@@ -52,7 +42,7 @@ module _ (m : Map) (cells : List ℕ) (l : List (ℕ × ℕ)) (off bad : Bool) (
 
 -- ---- a map that is held
 module _ (m : Map) (cells : List ℕ) where
-  held : (M : model.Map) → Lent m cells M → floor.Holds cells (m .cells) (M .cells)
+  pub held : (M : model.Map) → Lent m cells M → floor.Holds cells (m .cells) (M .cells)
   held M h = subst (λ (c : List ℕ). floor.Holds c (m .cells) (M .cells)) (h .2) (h .1 .cells)
 
   same-cells : (M : model.Map) → Lent m cells M → take (m .cells) cells ≡ M .cells
@@ -61,12 +51,6 @@ module _ (m : Map) (cells : List ℕ) where
   pub occupied-told : (x y : ℤ) (b : Bool) → (AscL 0 (take (m .cells) cells) → b ≡ has (key x y) (take (m .cells) cells)) → (M : model.Map) → Lent m cells M → b ≡ isOccupied M x y
   unfolding isOccupied
   occupied-told x y b f M h = subst (λ (u : List ℕ). AscL 0 u → b ≡ has (key x y) u) (same-cells M h) f (held M h .order)
-
-  pub question-told : (q : Question) (o : Found) (p : Place) → placed p ≡ cellAt (found o .cell)
-      → (AscL 0 (take (m .cells) cells) → All (Inside maxCoordinate) (take (m .cells) cells) → o ≡ foundAs (ask (m .size) (take (m .cells) cells) (asked q)))
-      → (M : model.Map) → Lent m cells M → placed p ≡ cellAt (question M (asked q) .cell)
-  unfolding question
-  question-told q o p e f M h = rw (← h .1 .size) (search-placed (m .size) cells (m .cells) (asked q) o p e f (M .cells) (held M h))
 
   module _ (out out′ : List ℕ) (room : maxCells ≤ length out) where
     pub cells-written : Copied (take (m .cells) cells) out out′ → (M : model.Map) → Lent m cells M → Written M (m .cells) (record { was = out; is = out′; wanted = occupiedCells } ∷ [])

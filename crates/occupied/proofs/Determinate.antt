@@ -1,56 +1,31 @@
 -- Any two outcomes that a call's contract permits are equal, of a map that is held; and where the call is refused, whatever the tables hold. Assumes nothing.
-use Prim.Native.Nat.{ℕ, zero, suc}
+use Prim.Native.Nat.{ℕ}
 use mathlib.Core.Path.{_≡_, refl, sym, _∙_}
 use mathlib.Core.Bool.{false}
 use mathlib.Core.List.{List, [], _∷_}
-use mathlib.Core.Logic.{_⊎_, ⊎-elim}
 use lib.IntN.{ℤ}
 use lib.ListN.{length}
-use Rattle.answers.proofs.ListingLaws.{Settled, list-one}
+use Rattle.answers.proofs.ListingLaws.{Settled, list-one, settled-one}
 use Rattle.answers.specs.declared.judge.Count.{Count}
 use Rattle.model.specs.Limits.{needCells}
 use Rattle.model.specs.Map as model
-use Rattle.model.specs.Refusal.{badQuestion}
-use Rattle.question.specs.Question.{asked}
-use Rattle.question.specs.declared.search.Question.{Question}
-use Rattle.questions.proofs.Determinate.{place-one}
-use Rattle.questions.specs.declared.ask.Answer.{Answer}
 use Rattle.held.specs.declared.map.Map.{Map}
-use Rattle.occupied.specs.Found.{Asking, Telling}
+use Rattle.occupied.specs.Found.{Telling}
 use Rattle.occupied.specs.declared.cells.Told.{Told}
-use Rattle.occupied.specs.Lists.{Asks, CornerCells, IsOccupied, Lent, OccupiedCells, due}
+use Rattle.occupied.specs.Lists.{CornerCells, IsOccupied, Lent, OccupiedCells, due}
 
 same-told : (r q : Told) → r .refusal ≡ q .refusal → r .yes ≡ q .yes → r ≡ q
 same-told r q a b = rw (a, b) refl
 
-same-answer : (r q : Answer) → r .refusal ≡ q .refusal → r .cell ≡ q .cell → r ≡ q
-same-answer r q a b = rw (a, b) refl
-
 module _ (n : ℕ) (Hold : model.Map → Type 0) where
-  -- two that agree where n is a refusal, and where it is none
-  settled-one : {A : Type 0} (r q : A) → ((k : ℕ) → n ≡ suc k → r ≡ q) → ((M : model.Map) → Hold M → n ≡ 0 → r ≡ q) → Settled n Hold → r ≡ q
-  settled-one {A} r q f g = ⊎-elim (λ h. go (h .0) (h .1) n refl) (λ k. f (k .0) (k .1))
-    where
-      go : (M : model.Map) → Hold M → (k : ℕ) → n ≡ k → r ≡ q
-      go M h zero e = g M h e
-      go M h (suc k) e = f k e
-
   telling-one : (x y : ℤ) (r q : Told) → Telling n Hold x y r → Telling n Hold x y q → Settled n Hold → r ≡ q
   telling-one x y r q u v =
-      settled-one r q (λ k e. u .refused k e ∙ sym (v .refused k e)) (λ M h e. same-told r q (u .refusal ∙ sym (v .refusal)) (u .answer M h e ∙ sym (v .answer M h e)))
-
-  asking-one : (question : Question) (r q : Answer) → Asking n Hold question r → Asking n Hold question q → Settled n Hold → r ≡ q
-  asking-one question r q u v =
-      settled-one r q (λ k e. u .refused k e ∙ sym (v .refused k e))
-      (λ M h e. same-answer r q (u .refusal ∙ sym (v .refusal)) (place-one (r .cell) (q .cell) (u .answer M h e ∙ sym (v .answer M h e))))
+      settled-one n Hold r q (λ k e. u .refused k e ∙ sym (v .refused k e)) (λ M h e. same-told r q (u .refusal ∙ sym (v .refusal)) (u .answer M h e ∙ sym (v .answer M h e)))
 
 -- ---- the calls, on the cells that the map m lends
 module _ (m : Map) (cells : List ℕ) where
   pub occupied-one : (x y : ℤ) (r q : Told) → IsOccupied m cells x y r → IsOccupied m cells x y q → Settled (due m cells [] false) (Lent m cells) → r ≡ q
   occupied-one = telling-one (due m cells [] false) (Lent m cells)
-
-  pub ask-one : (question : Question) (r q : Answer) → Asks m cells question r → Asks m cells question q → Settled (due m cells [] (badQuestion (asked question))) (Lent m cells) → r ≡ q
-  ask-one question = asking-one (due m cells [] (badQuestion (asked question))) (Lent m cells) question
 
   module _ (out out₁ out₂ : List ℕ) (r q : Count) where
     pub cells-one : OccupiedCells m cells out out₁ r → OccupiedCells m cells out out₂ q → Settled (due m cells ((length out, needCells) ∷ []) false) (Lent m cells) → (r ≡ q) × (out₁ ≡ out₂)

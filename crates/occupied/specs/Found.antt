@@ -1,14 +1,10 @@
--- One answer of a map: whether a cell is occupied, and the question of four shapes (document 01). Definitions only.
+-- One answer of a map: whether a cell is occupied (document 01). Definitions only.
 use Prim.Native.Nat.{ℕ, suc}
 use mathlib.Core.Path.{_≡_}
 use mathlib.Core.Bool.{false}
 use lib.IntN.{ℤ}
-use Rattle.model.specs.Answers.{isOccupied, question}
+use Rattle.model.specs.Answers.{isOccupied}
 use Rattle.model.specs.Map as model
-use Rattle.question.specs.Question.{asked}
-use Rattle.question.specs.declared.search.Question.{Question}
-use Rattle.questions.specs.Ask.{cellAt, nowhere, placed}
-use Rattle.questions.specs.declared.ask.Answer.{Answer}
 use Rattle.occupied.specs.declared.cells.Told.{Told}
 
 -- the cell (x, y), where the refusal n is due or none
@@ -16,9 +12,3 @@ pub record Telling (n : ℕ) (Hold : model.Map → Type 0) (x y : ℤ) (r : Told
   pub refusal : r .refusal ≡ n
   pub refused : (k : ℕ) → n ≡ suc k → r ≡ record { refusal = suc k; yes = false }
   pub answer : (M : model.Map) → Hold M → n ≡ 0 → r .yes ≡ isOccupied M x y
-
--- the question q
-pub record Asking (n : ℕ) (Hold : model.Map → Type 0) (q : Question) (r : Answer) : Type 0 where
-  pub refusal : r .refusal ≡ n
-  pub refused : (k : ℕ) → n ≡ suc k → r ≡ nowhere (suc k)
-  pub answer : (M : model.Map) → Hold M → n ≡ 0 → placed (r .cell) ≡ cellAt (question M (asked q) .cell)

@@ -12,13 +12,10 @@ use Rattle.model.specs.Answers.{corners, occupiedCells}
 use Rattle.model.specs.Limits.{maxCells, needCells}
 use Rattle.model.specs.Map as model
 use Rattle.model.specs.Maps.{keys}
-use Rattle.model.specs.Refusal.{badQuestion, short}
-use Rattle.question.specs.Question.{asked}
-use Rattle.question.specs.declared.search.Question.{Question}
-use Rattle.questions.specs.declared.ask.Answer.{Answer}
+use Rattle.model.specs.Refusal.{short}
 use Rattle.table.specs.Listed.{values}
 use Rattle.held.specs.declared.map.Map.{Map}
-use Rattle.occupied.specs.Found.{Asking, Telling}
+use Rattle.occupied.specs.Found.{Telling}
 use Rattle.occupied.specs.declared.cells.Told.{Told}
 
 module _ (m : Map) (cells : List ℕ) where
@@ -32,10 +29,6 @@ module _ (m : Map) (cells : List ℕ) where
   -- `is_occupied`, of the cell (x, y)
   abbrev pub IsOccupied : ℤ → ℤ → Told → Type 0
   IsOccupied x y r = Telling (due [] false) Lent x y r
-
-  -- the question q
-  abbrev pub Asks : Question → Answer → Type 0
-  Asks q r = Asking (due [] (badQuestion (asked q))) Lent q r
 
   -- `occupied_cells`, and `corners` with their statuses: the outputs, and what they became
   abbrev pub cellsTo : List ℕ → List ℕ → Output

@@ -1,3 +1,2 @@
-// What may be asked of a map's cells.
-pub mod ask;
+// What is occupied on a map: its cells, and those with a corner.
 pub mod cells;

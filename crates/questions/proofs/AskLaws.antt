@@ -1,5 +1,6 @@
 -- A question's refusals in their order, and what a call of `ask` answers. Assumes nothing.
 use Prim.Native.Nat.{ℕ, _≤_, _<_}
+use native.Mathlib.Nat.{suc-ne-zero}
 use mathlib.Core.Path.{_≡_, refl, sym, ap, _∙_, subst}
 use mathlib.Core.Bool.{Bool, true, false, cond, or-false}
 use mathlib.Core.List.{List}
@@ -17,7 +18,6 @@ use Rattle.table.specs.Tables.{All}
 use Rattle.floor.specs.Floor.{Holds}
 use Rattle.floor.specs.declared.floor.Floor.{Floor}
 use Rattle.floor.proofs.FloorLaws.{holds-cells}
-use Rattle.grid.proofs.RefuseLaws.{apart}
 use Rattle.questions.specs.Ask.{Asked, cellAt, nowhere, placed, refuseAsk}
 use Rattle.question.specs.Question.{asked}
 use Rattle.question.specs.Walk.{found, foundAs, keyed}
@@ -54,9 +54,9 @@ module _ (room : ℕ) (c : Float) (n : ℕ) (q : Question) where
   ask-fits e = go (ltb room 1024) (badSize c) (ltb 1024 n) refl refl (sym in-turn ∙ e)
     where
       go : (a b d : Bool) → ltb room 1024 ≡ a → ltb 1024 n ≡ d → _≡_ {A = ℕ} (cond a 9 (cond b 1 (cond d 6 (cond (badQuestion q) 8 0)))) 0 → (1024 ≤ room) × (n ≤ 1024)
-      go true b d u v z = absurd (apart z)
-      go false true d u v z = absurd (apart z)
-      go false false true u v z = absurd (apart z)
+      go true b d u v z = absurd (suc-ne-zero _ z)
+      go false true d u v z = absurd (suc-ne-zero _ z)
+      go false false true u v z = absurd (suc-ne-zero _ z)
       go false false false u v z = (ltb-false room 1024 u, ltb-false 1024 n v)
 
 -- ---- what was found, on a floor that holds its cells
@@ -94,4 +94,4 @@ module _ (floor : Floor) (t : List ℕ) (q : code.Question) (r : Answer) where
   pub ask-answered : (o : Found) → 0 ≡ due → r .refusal ≡ 0 → placed (r .cell) ≡ cellAt (found o .cell)
       → (AscL 0 (take (floor .cells) t) → All (Inside maxCoordinate) (take (floor .cells) t) → o ≡ foundAs (ask (floor .size) (take (floor .cells) t) (asked q))) → Asked floor t q r
   ask-answered o e z p f =
-      record { refusal = z ∙ e; refused = λ n s. absurd (apart (sym s ∙ z)); answer = λ C h w. search-placed (floor .size) t (floor .cells) (asked q) o (r .cell) p f C h }
+      record { refusal = z ∙ e; refused = λ n s. absurd (suc-ne-zero _ (sym s ∙ z)); answer = λ C h w. search-placed (floor .size) t (floor .cells) (asked q) o (r .cell) p f C h }

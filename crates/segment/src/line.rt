@@ -37,12 +37,6 @@ fn exchanged(s: LineSegment) -> LineSegment
 }
 
 impl LineSegment {
-    pub fn new(p0: Point, p1: Point) -> Self
-        ensures { λ r. ⌜ (r .p0 ≡ p0) × (r .p1 ≡ p1) ⌝ }
-    {
-        LineSegment { p0, p1 }
-    }
-
     // The y values at x: none, one, or both ends' where the segment is upright.
     pub fn vertical_intersect(self, x: f64) -> Crossings
         ensures { λ r. ⌜ r ≡ places (verticalAt (seg self) x) ⌝ }

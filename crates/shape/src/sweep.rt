@@ -115,13 +115,13 @@ impl Strip {
         }
     }
 
-    pub fn leftmost(self) -> f64
+    fn leftmost(self) -> f64
         ensures { λ r. ⌜ r ≡ leftmost (strip self) ⌝ }
     {
         lesser(lesser(lesser(self.a.x, self.b.x), self.c.x), self.d.x)
     }
 
-    pub fn rightmost(self) -> f64
+    fn rightmost(self) -> f64
         ensures { λ r. ⌜ r ≡ rightmost (strip self) ⌝ }
     {
         greater(greater(greater(self.a.x, self.b.x), self.c.x), self.d.x)

@@ -8,8 +8,8 @@ use mathlib.Core.List.{List, [], _∷_, _++_}
 use mathlib.Core.Option.{Option, none}
 use lib.ListN.{length, drop, getD, set, length-set}
 use lib.Ieee.{Float}
-use Rattle.grid.proofs.ListedLaws.{keys-at}
-use Rattle.grid.proofs.WriteLaws.{listed-lengths}
+use Rattle.table.proofs.ListedLaws.{keys-at}
+use Rattle.batches.proofs.WriteLaws.{listed-lengths}
 use Rattle.limits.specs.Batches.{flags}
 use Rattle.lists.proofs.Front.{mix, mix-done, mix-more}
 use Rattle.marks.specs.Standing.{Small, Standing, mood, word}

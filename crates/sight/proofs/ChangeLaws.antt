@@ -8,8 +8,9 @@ use mathlib.Core.List.{List, [], _∷_}
 use mathlib.Core.Option.{Option}
 use lib.ListN.{length, drop, getD, drop-of-length-le}
 use lib.Seq.{drop-cons}
-use Rattle.grid.proofs.ListedLaws.{flags-at, keys-at}
-use Rattle.grid.proofs.WriteLaws.{Says}
+use Rattle.batches.proofs.ListedLaws.{flags-at}
+use Rattle.table.proofs.ListedLaws.{keys-at}
+use Rattle.batches.proofs.WriteLaws.{Says}
 use Rattle.limits.specs.Batches.{flags}
 use Rattle.model.specs.Batch.{Batch}
 use Rattle.model.specs.ClosedForm.{pointRun}

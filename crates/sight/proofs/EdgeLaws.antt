@@ -10,7 +10,7 @@ use borrow.Author.Tests.{eq-eqb, ne-eqb}
 use lib.Dec.{eqb}
 use lib.Ieee.{Float}
 use lib.ListN.{length, getD}
-use Rattle.grid.proofs.WriteLaws.{Says, says-free, says-full}
+use Rattle.batches.proofs.WriteLaws.{Says, says-free, says-full}
 use Rattle.limits.specs.Batches.{flags}
 use Rattle.model.specs.Batch.{Batch}
 use Rattle.model.specs.Good.{Inside}

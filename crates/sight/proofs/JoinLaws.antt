@@ -10,8 +10,8 @@ use borrow.Author.Tests.{lt-ltb, le-ltb, ltb-true}
 use lib.Dec.{ltb}
 use lib.Ieee.{Float}
 use lib.ListN.{length, getD, set, length-set}
-use Rattle.grid.proofs.ListedLaws.{keys-at}
-use Rattle.grid.proofs.WriteLaws.{listed-lengths}
+use Rattle.table.proofs.ListedLaws.{keys-at}
+use Rattle.batches.proofs.WriteLaws.{listed-lengths}
 use Rattle.limits.specs.Batches.{flags}
 use Rattle.marks.specs.Standing.{Small, Standing, mood, word}
 use Rattle.marks.specs.declared.mood.Mood.{Mood}

@@ -75,7 +75,10 @@ fn run_pair(
         return start;
     }
     let test = NearTest::new(
-        LineSegment::new(centre(p, size), centre(q, size)),
+        LineSegment {
+            p0: centre(p, size),
+            p1: centre(q, size),
+        },
         reach,
         turned.len(),
     );

@@ -48,19 +48,6 @@ pub fn corner(cell: u64, i: u64, size: f64) -> Point
     }
 }
 
-// A cell's two outer corners, and its centre.
-pub fn low_corner(cell: u64, size: f64) -> Point
-    ensures { λ r. ⌜ pt r ≡ lowCorner size cell (pos 0) (pos 0) ⌝ }
-{
-    corner(cell, 0, size)
-}
-
-pub fn high_corner(cell: u64, size: f64) -> Point
-    ensures { λ r. ⌜ pt r ≡ lowCorner size cell (pos 1) (pos 1) ⌝ }
-{
-    corner(cell, 3, size)
-}
-
 pub fn centre(cell: u64, size: f64) -> Point
     ensures { λ r. ⌜ pt r ≡ centre size cell ⌝ }
 {

@@ -2,9 +2,14 @@
 use Prim.Native.Nat.{ℕ, zero, suc, _≤_, _<_}
 use native.Mathlib.Nat.{le-of-suc-le-suc, not-suc-le-zero}
 use native.Mathlib.Omega.{arith}
+use mathlib.Core.Path.{sym, subst}
+use mathlib.Core.Logic.{⊎-elim}
 use mathlib.Core.List.{List, [], _∷_}
+use lib.Dec.{T, eqb, eqb→eq, eqb-refl}
 use lib.ListN.{length, take, drop, getD}
-use Rattle.model.specs.Maps.{AscL}
+use Rattle.ieee.proofs.Tools.{or-cases}
+use Rattle.model.specs.Maps.{AscL, has}
+use Rattle.model.proofs.MapLaws.{or-left, or-right}
 use Rattle.table.specs.Tables.{All}
 
 pub all-at : (P : ℕ → Type 0) (l : List ℕ) (i : ℕ) → All P l → i < length l → P (getD l i 0)
@@ -19,6 +24,18 @@ all-from P (x ∷ l) f = (f 0, all-from P l (λ i. f (suc i)))
 pub all-map : {P Q : ℕ → Type 0} (l : List ℕ) → ((x : ℕ) → P x → Q x) → All P l → All Q l
 all-map [] f a = tt
 all-map (x ∷ l) f a = (f x (a .0), all-map l f (a .1))
+
+-- ---- members
+pub has-all : (P : ℕ → Type 0) (l : List ℕ) (x : ℕ) → All P l → T (has x l) → P x
+unfolding has
+has-all P [] x a t = absurd t
+has-all P (y ∷ l) x a t =
+    ⊎-elim (λ e. subst P (sym (eqb→eq x y e)) (a .0)) (λ u. has-all P l x (a .1) u) (or-cases (eqb x y) (has x l) t)
+
+pub all-has : (P : ℕ → Type 0) (l : List ℕ) → ((x : ℕ) → T (has x l) → P x) → All P l
+unfolding has
+all-has P [] f = tt
+all-has P (y ∷ l) f = (f y (or-left (eqb y y) (has y l) (eqb-refl y)), all-has P l (λ x t. f x (or-right (eqb x y) (has x l) t)))
 
 -- ---- ascending lists
 pub ascL-down : (lo lo′ : ℕ) (l : List ℕ) → lo ≤ lo′ → AscL lo′ l → AscL lo l

@@ -1,10 +1,8 @@
 -- The laws of crate `table`.
 pub mod AllLaws
-pub mod ColumnLaws
 pub mod ListedLaws
 pub mod LookLaws
 pub mod RankLaws
 pub mod SearchLaws
 pub mod ShiftLaws
-pub mod SiftLaws
 pub mod TableLaws

@@ -1,8 +1,8 @@
 -- What a list of cells with a number each leaves in the two tables that it was written to. Assumes nothing.
-use Prim.Native.Nat.{ℕ, suc}
+use Prim.Native.Nat.{ℕ, zero, suc}
 use mathlib.Core.Path.{_≡_, refl, sym, ap, _∙_}
 use mathlib.Core.List.{List, [], _∷_, _++_}
-use lib.ListN.{length, take, drop}
+use lib.ListN.{length, take, drop, getD}
 use lib.Seq.{take-append-seam}
 use Rattle.model.specs.Maps.{keys}
 use Rattle.table.specs.Listed.{Listed, values}
@@ -15,6 +15,12 @@ keys-length (e ∷ l) = ap suc (keys-length l)
 pub values-length : (l : List (ℕ × ℕ)) → length (values l) ≡ length l
 values-length [] = refl
 values-length (e ∷ l) = ap suc (values-length l)
+
+pub keys-at : {A : Type 0} (w : List (ℕ × A)) (n : ℕ) (z : A) → getD (keys w) n 0 ≡ getD w n (0, z) .0
+unfolding keys
+keys-at [] n z = refl
+keys-at (e ∷ w) zero z = refl
+keys-at (e ∷ w) (suc n) z = keys-at w n z
 
 -- the front of a table
 front : (m a a′ : List ℕ) (n r : ℕ) → length m ≡ n → r ≡ n → a′ ≡ m ++ drop n a → take r a′ ≡ m

@@ -1,5 +1,4 @@
 -- What the contracts of crate `table` cite.
-pub mod Columns
 pub mod Listed
 pub mod Search
 pub mod Tables

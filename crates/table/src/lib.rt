@@ -1,7 +1,6 @@
 // Ascending tables of keys in lent slices (the BTreeMap and BTreeSet of the Rust). No function asks
 // anything of a table: each ends within bounds whatever it holds, and what it promises, it promises of
 // an ascending one.
-pub mod column;
 mod look;
 pub mod place;
 pub mod places;

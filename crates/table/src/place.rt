@@ -25,22 +25,6 @@ pub fn place(t: &[u64], k: u64) -> usize
     look(t, at, 0, k)
 }
 
-// The same, for a key that stands near the front: the stretch that is searched begins with one key and doubles.
-pub(crate) fn place_near(t: &[u64], k: u64) -> usize
-    ensures { λ r. ⌜ (r ≤ length (now (t .entry))) × (AscL 0 (now (t .entry)) → r ≡ rank k (now (t .entry))) ⌝ }
-{
-    let mut at = 0;
-    let mut n = 0;
-    while n < t.len() && t[n] < k {
-        at = n + 1;
-        n = 2 * n + 1;
-    }
-    if n < t.len() {
-        return at + place(&t[at..n], k);
-    }
-    at + place(&t[at..], k)
-}
-
 // Whether k is the key at a place.
 pub fn stands_at(t: &[u64], at: usize, k: u64) -> bool
     ensures { λ r. ⌜ r ≡ stands k at (now (t .entry)) ⌝ }

@@ -4,8 +4,9 @@ use native.Mathlib.Omega.{arith}
 use mathlib.Core.Path.{_≡_, refl, sym, subst}
 use mathlib.Core.List.{List}
 use lib.ListN.{length}
-use Rattle.grid.proofs.ApplyLaws.{flags-count, numbered-count}
-use Rattle.grid.proofs.BatchLaws.{Settled, batch-length, settled}
+use Rattle.batches.proofs.AlterLaws.{flags-count}
+use Rattle.corner.proofs.ChangeLaws.{numbered-count}
+use Rattle.batches.proofs.BatchLaws.{Settled, batch-length, settled}
 use Rattle.model.proofs.ClosedForm.{change-closed}
 use Rattle.model.proofs.LayerLaws.{Lawful}
 use Rattle.model.proofs.RunLaws.{batch-ascends, batch-inside}

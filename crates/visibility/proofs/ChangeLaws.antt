@@ -1,5 +1,6 @@
 -- What a call of `change_cells` answers and leaves: refused by its input, for its cells, for its points, or done. Assumes nothing.
 use Prim.Native.Nat.{ℕ, suc, _≤_, _<_}
+use native.Mathlib.Nat.{suc-ne-zero}
 use native.Mathlib.Omega.{arith}
 use mathlib.Core.Path.{_≡_, refl, sym, ap, _∙_, subst}
 use mathlib.Core.Logic.{_⊎_, ⊎-elim}
@@ -10,7 +11,6 @@ use lib.IntN.{ℤ}
 use lib.ListN.{length, take}
 use borrow.Author.Tests.{lt-ltb, le-ltb, ltb-false}
 use Rattle.floor.proofs.FloorLaws.{holds-cells}
-use Rattle.grid.proofs.RefuseLaws.{apart}
 use Rattle.floor.specs.Floor as floor
 use Rattle.limits.specs.Batches.{entries}
 use Rattle.model.proofs.RunLaws.{passed}
@@ -132,11 +132,11 @@ module _ (m : Map) (b : List ℤ) (t t′ : Lent) (r : Changed) where
           count (subst (AscL 0) (sym same) (h .order)) (past .order) (past .bounds) ∙ ap (λ (D : List ℕ). length (after D)) same
 
       not-early : (n : ℕ) → early ≡ suc n → ⊥
-      not-early n z = apart (sym z ∙ sym e)
+      not-early n z = suc-ne-zero _ (sym z ∙ sym e)
 
       pub crowded-refused : maxCells < k → r ≡ refusedWith 6 → t′ ≡ t → Changing m b t t′ r
       crowded-refused g f w =
-          refuses 6 apart f w (λ n z. absurd (not-early n z))
+          refuses 6 (suc-ne-zero _) f w (λ n z. absurd (not-early n z))
           (λ C h p u. sym (past .later (ltb maxCells (length (after C))) p ∙ ap (λ (v : Bool). cond v 6 (cond p 7 0)) (lt-ltb maxCells (length (after C)) (subst (λ (n : ℕ). maxCells < n) (counted C h) g))))
 
       module _ (g : k ≤ maxCells) where
@@ -149,14 +149,14 @@ module _ (m : Map) (b : List ℤ) (t t′ : Lent) (r : Changed) where
 
         pub packed-refused : maxPoints < m .points → r ≡ refusedWith 7 → t′ ≡ t → Changing m b t t′ r
         packed-refused big f w =
-            refuses 7 apart f w (λ n z. absurd (not-early n z)) (λ C h p u. sym (points-decide C h p ∙ ap (λ (v : Bool). cond v 7 0) (u big)))
+            refuses 7 (suc-ne-zero _) f w (λ n z. absurd (not-early n z)) (λ C h p u. sym (points-decide C h p ∙ ap (λ (v : Bool). cond v 7 0) (u big)))
 
         pub updated : m .points ≤ maxPoints → Updated m l t t′ r → Changing m b t t′ r
         updated few u = record {
           input = λ n z. absurd (not-early n z);
           packed = λ C h big. absurd (let j : m .points ≤ maxPoints = few in omega arith);
           refusal = λ M h. answer M h (ltb maxPoints (pointsAfter M l)) refl ∙ sym (points-decide (M .cells) (h .cells) (ltb maxPoints (pointsAfter M l))) ∙ sym (judged m t M l h);
-          refused = λ n z. ⊎-elim (λ y. absurd (apart (sym z ∙ y))) (λ y. (y .1, y .0 ∙ ap refusedWith (sym (number 7 (y .0)) ∙ z))) (u .either);
+          refused = λ n z. ⊎-elim (λ y. absurd (suc-ne-zero _ (sym z ∙ y))) (λ y. (y .1, y .0 ∙ ap refusedWith (sym (number 7 (y .0)) ∙ z))) (u .either);
           done = λ M h z. u .done M (updating M h) (enough M h (ltb maxPoints (pointsAfter M l)) refl z);
         }
           where
@@ -175,5 +175,5 @@ module _ (m : Map) (b : List ℤ) (t t′ : Lent) (r : Changed) where
             answer M h false q = ap (λ (a : Changed). a .refusal) (u .done M (updating M h) q .answer)
 
             enough : (M : model.Map) → Holds m (t .tables) M → (p : Bool) → ltb maxPoints (pointsAfter M l) ≡ p → r .refusal ≡ 0 → ltb maxPoints (pointsAfter M l) ≡ false
-            enough M h true q z = absurd (apart (sym (answer M h true q) ∙ z))
+            enough M h true q z = absurd (suc-ne-zero _ (sym (answer M h true q) ∙ z))
             enough M h false q z = q

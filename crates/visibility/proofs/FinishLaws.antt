@@ -7,8 +7,8 @@ use lib.Dec.{ltb}
 use lib.Ieee.{Float}
 use lib.ListN.{drop, length, length-append, take}
 use lib.Seq.{length-take-le}
-use Rattle.grid.proofs.ApplyLaws.{flags-keys}
-use Rattle.grid.proofs.CommitLaws.{Commits, committed, committed-behind, committed-holds}
+use Rattle.batches.proofs.AlterLaws.{flags-keys}
+use Rattle.batches.proofs.CommitLaws.{Commits, committed, committed-behind, committed-holds}
 use Rattle.floor.proofs.FloorLaws.{holds-cells}
 use Rattle.floor.specs.Floor as floor
 use Rattle.model.proofs.BatchLaws.{cells-order}

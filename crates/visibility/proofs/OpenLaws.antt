@@ -1,5 +1,6 @@
 -- Opening a map: its refusals in their order, and the cleared tables, which hold a fresh map. Assumes nothing.
 use Prim.Native.Nat.{ℕ, suc, _≤_, _<_, zero-le}
+use native.Mathlib.Nat.{suc-ne-zero}
 use native.Mathlib.Omega.{arith}
 use mathlib.Core.Path.{_≡_, refl, sym, ap, _∙_}
 use mathlib.Core.Bool.{true, false, cond}
@@ -8,7 +9,6 @@ use lib.Ieee.{Float}
 use lib.ListN.{drop, length, replicate, take}
 use borrow.Author.Tests.{le-ltb}
 use Rattle.floor.proofs.FloorLaws.{holds-none}
-use Rattle.grid.proofs.RefuseLaws.{apart}
 use Rattle.model.proofs.RunLaws.{Sound, open-sound}
 use Rattle.model.specs.Limits.{maxCells, maxPoints}
 use Rattle.model.specs.Map.{emptyLayer, fresh}
@@ -57,7 +57,7 @@ open-refused c r t n o e h =
     number = ap (λ (w : Outcome). w .refusal) e
 
     never : o .refusal ≡ 0 → ⊥
-    never z = apart (sym number ∙ z)
+    never z = suc-ne-zero _ (sym number ∙ z)
 
 -- ---- the pairs of an empty layer
 cleared-pairs : (r : Float) (t : List ℕ) → Pairs (edgeAt (emptyLayer r)) (cleared pairPlaces t)
@@ -100,7 +100,7 @@ module _ (c r : Float) (t : Tables) (e : short (needs t) ≡ false) (f : badSize
   all-cleared =
       record {
         refusal = open-passes (needs t) c r e f g;
-        refused = λ n z. absurd (apart (sym z));
+        refused = λ n z. absurd (suc-ne-zero _ (sym z));
         answer = λ z. refl;
         holds = λ z. record {
           size = refl;

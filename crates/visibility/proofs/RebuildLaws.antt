@@ -1,5 +1,6 @@
 -- A change of the radius: its refusals in their order, and the tables drawn from no old point, which hold the model's map afterwards. Assumes nothing.
 use Prim.Native.Nat.{ℕ, suc, _≤_, _<_, zero-le}
+use native.Mathlib.Nat.{suc-ne-zero}
 use native.Mathlib.Omega.{arith}
 use mathlib.Core.Path.{_≡_, refl, sym, ap, _∙_, subst}
 use mathlib.Core.Bool.{Bool, true, false, cond, _||_, true≢false}
@@ -8,9 +9,8 @@ use lib.Ieee.{Float}
 use lib.ListN.{length, length-replicate, replicate, take}
 use borrow.Author.Tests.{le-ltb, lt-ltb, ltb-false}
 use Rattle.corner.specs.Changes.{Cornered, numbered}
-use Rattle.grid.proofs.ApplyLaws.{inside-inner}
+use Rattle.corner.proofs.ChangeLaws.{inside-inner}
 use Rattle.floor.proofs.FloorLaws.{holds-cells}
-use Rattle.grid.proofs.RefuseLaws.{apart}
 use Rattle.marks.specs.Marked.{Marking}
 use Rattle.model.specs.Cell.{reach}
 use Rattle.model.specs.ClosedForm.{Closed}
@@ -99,7 +99,7 @@ module _ (m : Map) (r : Float) (t : Tables) where
     judged-input n e f = e ∙ by-input ∙ turn-some before (cond (packed M′) 7 0) (λ z. f (e ∙ by-input ∙ z)) ∙ sym judged
 
     judged-points : refuseRadius (short (needs t)) m r ≡ 0 → (b : Bool) → packed M′ ≡ b → cond b 7 0 ≡ judge (needs t) (model.radius r) M M′
-    judged-points e b p = ap (λ (x : Bool). cond x 7 0) (sym p) ∙ turn-none before (cond (packed M′) 7 0) (apart, (apart, (apart, tt))) (sym by-input ∙ e) ∙ sym judged
+    judged-points e b p = ap (λ (x : Bool). cond x 7 0) (sym p) ∙ turn-none before (cond (packed M′) 7 0) (suc-ne-zero _, (suc-ne-zero _, (suc-ne-zero _, tt))) (sym by-input ∙ e) ∙ sym judged
 
   -- a refused call leaves the tables as they were
   rebuild-refused : (n : ℕ) (o : Outcome) → (n ≡ 0 → ⊥) → o ≡ refusedWith n → ((k : ℕ) → refuseRadius (short (needs t)) m r ≡ suc k → n ≡ suc k)
@@ -257,7 +257,7 @@ module _ (m : Map) (r : Float) (t : Tables) (pass : refuseRadius (short (needs t
     -- too many points: nothing is altered
     pub rebuild-packed : (o : Outcome) → maxPoints < n → o ≡ refusedWith 7 → Rebuilding m r t t o
     rebuild-packed o k q =
-        rebuild-refused m r t 7 o apart q (λ i z. absurd (apart (sym z ∙ pass)))
+        rebuild-refused m r t 7 o (suc-ne-zero _) q (λ i z. absurd (suc-ne-zero _ (sym z ∙ pass)))
         (λ M h. judged-points m r t h pass true (lt-ltb maxPoints _ (many h f e g k)))
 
     -- else the tables drawn anew
@@ -265,9 +265,9 @@ module _ (m : Map) (r : Float) (t : Tables) (pass : refuseRadius (short (needs t
         → Rebuilding m r t t′ (record { refusal = 0; map = record { size = m .size; radius = r; cells = m .cells; points = n } })
     rebuild-done t′ near same k v d =
         record {
-          input = λ i z. absurd (apart (sym z ∙ pass));
+          input = λ i z. absurd (suc-ne-zero _ (sym z ∙ pass));
           refusal = λ M h. judged-points m r t h pass false (le-ltb maxPoints _ (few h f e g k));
-          refused = λ i z. absurd (apart (sym z));
+          refused = λ i z. absurd (suc-ne-zero _ (sym z));
           answer = λ M h z. ap (λ (i : ℕ). record { size = m .size; radius = r; cells = m .cells; points = i }) (count h f e g (few h f e g k));
           holds = λ M h z. holds h f e g (few h f e g k) t′ same v d;
           behind = λ M h z. behind h f e g (few h f e g k) t′ same v d;

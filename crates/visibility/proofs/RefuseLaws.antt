@@ -1,5 +1,6 @@
 -- A map's refusals in their order. Assumes nothing.
 use Prim.Native.Nat.{ℕ, _≤_, _<_}
+use native.Mathlib.Nat.{suc-ne-zero}
 use mathlib.Core.Path.{_≡_, refl, sym, _∙_}
 use mathlib.Core.Bool.{Bool, true, false, cond, _||_, or-false}
 use mathlib.Core.List.{List, [], _∷_}
@@ -7,7 +8,6 @@ use lib.Dec.{ltb}
 use lib.ListN.{length}
 use lib.Ieee.{Float}
 use borrow.Author.Tests.{lt-ltb, le-ltb}
-use Rattle.grid.proofs.RefuseLaws.{apart}
 use Rattle.limits.specs.Batches as grid
 use Rattle.model.specs.Map.{Entry}
 use Rattle.model.specs.Refusal.{badRadius, badSize, firstOf, outside, short, unsorted, verdict}
@@ -91,7 +91,7 @@ module _ (s : Bool) (m : Map) (l : List Entry) (w p : Bool) where
 
         -- 6 where there are too many cells, 7 where there are too many points, else 0
         pub batch-last : (n : ℕ) → n ≡ grid.refuseBatch l → n ≡ 0 → cond w 6 (cond p 7 0) ≡ refuseBatch s m l w p
-        batch-last n h z = turn-none (ofEntries l) (cond w 6 (cond p 7 0)) (apart, (apart, (apart, tt))) (sym batch-turn ∙ sym h ∙ z) ∙ sym known
+        batch-last n h z = turn-none (ofEntries l) (cond w 6 (cond p 7 0)) (suc-ne-zero _, (suc-ne-zero _, (suc-ne-zero _, tt))) (sym batch-turn ∙ sym h ∙ z) ∙ sym known
 
 -- ---- a radius
 module _ (s : Bool) (m : Map) (r : Float) where

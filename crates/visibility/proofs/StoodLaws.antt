@@ -7,7 +7,7 @@ use mathlib.Core.List.{List, [], _∷_}
 use lib.Dec.{T, eqb, eqb→eq}
 use lib.ListN.{length}
 use Rattle.corner.specs.Changes.{numbered}
-use Rattle.grid.proofs.SetLaws.{same-members}
+use Rattle.batches.proofs.SetLaws.{same-members}
 use Rattle.marks.specs.Marked.{Bordered, Marking, ended, ending}
 use Rattle.held.specs.Layers.{statusesOf}
 use Rattle.marks.specs.Standing.{Standing, begun, standing, word, words}

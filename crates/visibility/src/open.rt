@@ -6,7 +6,7 @@ use copy::copy::clear;
 use held::map::Map;
 use held::map::Outcome;
 use limits::judge::bad_size;
-use limits::radius::bad_radius;
+use radii::radius::bad_radius;
 ghost use Rattle.visibility.specs.Open.{Opening};
 
 // Clears the tables up to their fixed need.

@@ -1,7 +1,7 @@
 -- `runcedau_ask`: what `ask` answers, as a struct. Assumes nothing.
 use borrow.Author.Needs.{needs}
 use mathlib.Core.Path.{subst}
-use Rattle.occupied.specs.Lists.{Asks}
+use Rattle.map_questions.specs.Asks.{Asks}
 use Rattle.question.specs.declared.search.Question.{Question}
 use Rattle.ask_c.proofs.runcedau_ask.Statement.{statement}
 use Rattle.ask_c.proofs.runcedau_ask.Tie as tie

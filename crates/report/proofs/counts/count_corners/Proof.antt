@@ -3,7 +3,7 @@ use borrow.Author.Needs.{needs}
 use native.Mathlib.Nat.{le-refl}
 use mathlib.Core.Path.{_∙_}
 use Rattle.corner.specs.Changes.{numbered}
-use Rattle.grid.proofs.ApplyLaws.{numbered-count}
+use Rattle.corner.proofs.ChangeLaws.{numbered-count}
 use Rattle.model.specs.Answers.{corners}
 use Rattle.table.proofs.ListedLaws.{keys-length}
 use Rattle.report.proofs.CallLaws.{call-accepted}

@@ -5,7 +5,7 @@ use mathlib.Core.Logic.{⊎-elim}
 use mathlib.Core.Bool.{true, false}
 use lib.ListN.{length, getD}
 use borrow.Author.Needs.{needs}
-use Rattle.grid.proofs.WriteLaws.{says-free, says-full}
+use Rattle.batches.proofs.WriteLaws.{says-free, says-full}
 use Rattle.model.specs.ClosedForm.{pointRun}
 use Rattle.model.specs.Map.{tests}
 use Rattle.sight.proofs.ChangeLaws.{Running, point-turns, running-start, running-next, running-end}

@@ -18,8 +18,8 @@ abbrev μ-loop : tie.MeasureT-loop
 μ-loop size radius cells turned full p q start test block₀ i₀ block i = length turned - i
 
 -- the changes fit the memory
-long : (c : tie.After-new2 Inv-loop μ-loop) → length (c .before .before .before .before .before .before .before .before .args .turned .now) * 8 < 2 ^ 63
-long c = c .before .before .before .before .before .before .before .before .good .1 .1 .1 .1 .0 .1
+long : (c : tie.After-new Inv-loop μ-loop) → length (c .before .before .before .before .before .before .before .args .turned .now) * 8 < 2 ^ 63
+long c = c .before .before .before .before .before .before .before .good .1 .1 .1 .1 .0 .1
 
 returns : tie.Need-returns Inv-loop μ-loop
 returns c = λ ch o order inside changes turnedAre fullAre near e n.
@@ -36,9 +36,6 @@ centre-requires-2 c κs = search needs
 
 new-requires : tie.Need-new-requires Inv-loop μ-loop
 new-requires c κs = search needs
-
-new-requires-2 : tie.Need-new-requires-2 Inv-loop μ-loop
-new-requires-2 c κs = search needs
 
 loop-holds : tie.Need-loop-holds Inv-loop μ-loop
 loop-holds c = running-start _ _ _ _ _ _ _ _ _
@@ -68,7 +65,7 @@ loop-again : tie.Need-loop-again Inv-loop μ-loop
 loop-again c =
     let l = c .before .before .before in
     let inv = l .before .loop .inv in
-    let a = l .before .before .before .before .before .before .before .before .before .before .args in
+    let a = l .before .before .before .before .before .before .before .before .before .args in
     let h = l .loop-test .taken in
     let f : getD (a .turned .now) (l .before .loop .i) 0 < 2 ^ 64 = c .before .before .shared-slice-known4 .given (l .before .loop .i) .fits in
     ⊎-elim (λ w. rw (w .3) (running-freed inv h (w .0 .taken) (w .1 .taken) (w .2 .result) (w .2 .ensures)))
@@ -81,9 +78,9 @@ returns-2 : tie.Need-returns-2 Inv-loop μ-loop
 returns-2 c = λ ch o order inside changes turnedAre fullAre near e n.
     let m = c .before .before in
     let s = m .before in
-    let a = m .before .before .before .before .before .before .before .before .args in
+    let a = m .before .before .before .before .before .before .before .args in
     running-end (c .before .loop .inv) (c .loop-test .left) ch o (record { order = order; inside = inside; changes = changes; turnedAre = turnedAre; fullAre = fullAre })
-    (says-near (a .size) (a .radius) (a .p) (a .q) _ _ (s .new .result) (a .reach) (m .new2 .result) (s .before .before .centre .ensures) (s .before .centre2 .ensures) (s .new .ensures .0) (s .new .ensures .1) (m .new2 .ensures) near) e n
+    (says-near (a .size) (a .radius) (a .p) (a .q) _ _ _ (a .reach) (m .new .result) (s .before .centre .ensures) (s .centre2 .ensures) refl refl (m .new .ensures) near) e n
 
 pub run-pair-spec : {M : Type 1} → statement M
 run-pair-spec =
@@ -95,7 +92,6 @@ run-pair-spec =
     centre-requires
     centre-requires-2
     new-requires
-    new-requires-2
     loop-holds
     mul-c
     shared-slice-read-c

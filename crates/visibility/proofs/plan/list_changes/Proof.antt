@@ -5,7 +5,7 @@ use mathlib.Core.Path.{_≡_, sym}
 use lib.ListN.{length, take}
 use lib.Seq.{length-take-le}
 use borrow.Author.Needs.{needs}
-use Rattle.grid.proofs.ApplyLaws.{corners-listed}
+use Rattle.batches.proofs.AlterLaws.{corners-listed}
 use Rattle.limits.specs.Batches.{entries}
 use Rattle.visibility.proofs.plan.list_changes.Statement.{statement}
 use Rattle.visibility.proofs.plan.list_changes.Tie as tie

@@ -44,19 +44,19 @@ returns-2 c =
     let a = start d .args in
     meets-far (a .self) (a .cell) (gap d) (away d) (outer e) (rw (d .dot .ensures) at (c .if2 .taken))
 
-low-corner-requires : tie.Need-low-corner-requires
-low-corner-requires c κs = search needs
+corner-requires : tie.Need-corner-requires
+corner-requires c κs = search needs
 
-high-corner-requires : tie.Need-high-corner-requires
-high-corner-requires c κs = search needs
+corner-requires-2 : tie.Need-corner-requires-2
+corner-requires-2 c κs = search needs
 
 sides-inside-requires : tie.Need-sides-inside-requires
 sides-inside-requires c κs = search needs
 
 returns-3 : tie.Need-returns-3
 returns-3 c =
-    let low = c .before .before .low-corner in
-    let high = c .before .high-corner in
+    let low = c .before .before .corner in
+    let high = c .before .corner2 in
     let o = c .before .before .before in
     let e = o .before .before in
     let d = e .before .before in
@@ -67,4 +67,4 @@ returns-3 c =
 pub meets-spec : {M : Type 1} → statement M
 meets-spec =
     tie.close
-    (tie.spec centre-requires minus-requires dot-requires returns returns-2 low-corner-requires high-corner-requires sides-inside-requires returns-3)
+    (tie.spec centre-requires minus-requires dot-requires returns returns-2 corner-requires corner-requires-2 sides-inside-requires returns-3)

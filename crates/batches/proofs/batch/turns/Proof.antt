@@ -1,0 +1,25 @@
+-- `batch::turns`: an entry alters what it does not find. Assumes nothing.
+use borrow.Author.Needs.{needs}
+use Rattle.model.specs.Maps.{has}
+use Rattle.batches.proofs.TurnLaws.{alters-full, alters-free}
+use Rattle.batches.proofs.batch.turns.Statement.{statement}
+use Rattle.batches.proofs.batch.turns.Tie as tie
+
+contains-requires : tie.Need-contains-requires
+contains-requires c κs = search needs
+
+returns : tie.Need-returns
+returns c =
+    let s = c .before .before .before .args in
+    λ a. rw (c .contains .ensures a, c .before .if1 .taken) (alters-full (has (s .k) (s .cells .now)))
+
+contains-requires-2 : tie.Need-contains-requires-2
+contains-requires-2 c κs = search needs
+
+returns-2 : tie.Need-returns-2
+returns-2 c =
+    let s = c .before .before .before .args in
+    λ a. rw (c .contains2 .ensures a, c .before .if1 .left) (alters-free (has (s .k) (s .cells .now)))
+
+pub turns-spec : {M : Type 1} → statement M
+turns-spec = tie.close (tie.spec contains-requires returns contains-requires-2 returns-2)

@@ -1,0 +1,4 @@
+-- The laws of crate `columns`.
+pub mod ColumnLaws
+pub mod NearLaws
+pub mod SiftLaws

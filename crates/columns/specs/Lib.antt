@@ -1,0 +1,2 @@
+-- What the contracts of crate `columns` cite.
+pub mod Columns

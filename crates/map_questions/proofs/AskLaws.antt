@@ -1,0 +1,39 @@
+-- The question of four shapes, answered or refused. Assumes nothing.
+use Prim.Native.Nat.{ℕ}
+use native.Mathlib.Nat.{suc-ne-zero}
+use mathlib.Core.Path.{_≡_, sym, ap, _∙_}
+use mathlib.Core.List.{List}
+use lib.ListN.{take}
+use Rattle.held.specs.declared.map.Map.{Map}
+use Rattle.model.specs.Answers.{question}
+use Rattle.model.specs.Good.{Inside}
+use Rattle.model.specs.Limits.{maxCoordinate}
+use Rattle.model.specs.Map as model
+use Rattle.model.specs.Maps.{AscL}
+use Rattle.model.specs.Shape.{ask}
+use Rattle.occupied.specs.Lists.{Lent}
+use Rattle.occupied.proofs.CellLaws.{held}
+use Rattle.question.specs.Question.{asked}
+use Rattle.question.specs.Walk.{found, foundAs}
+use Rattle.question.specs.declared.search.Found.{Found}
+use Rattle.question.specs.declared.search.Question.{Question}
+use Rattle.questions.proofs.AskLaws.{search-placed}
+use Rattle.questions.specs.Ask.{cellAt, nowhere, placed}
+use Rattle.questions.specs.declared.ask.Place.{Place}
+use Rattle.table.specs.Tables.{All}
+use Rattle.map_questions.specs.Asks.{Asking}
+
+-- the number k was answered, where n is due, to the question q
+module _ (n k : ℕ) (Hold : model.Map → Type 0) (e : k ≡ n) (q : Question) where
+  pub asking-refused : (k ≡ 0 → ⊥) → Asking n Hold q (nowhere k)
+  asking-refused f = record { refusal = e; refused = λ j g. ap nowhere (e ∙ g); answer = λ M h z. absurd (f (e ∙ z)) }
+
+  pub asking-done : (p : Place) → k ≡ 0 → ((M : model.Map) → Hold M → placed p ≡ cellAt (question M (asked q) .cell)) → Asking n Hold q (record { refusal = 0; cell = p })
+  asking-done p z w = record { refusal = sym z ∙ e; refused = λ j g. absurd (suc-ne-zero _ (sym (sym z ∙ e ∙ g))); answer = λ M h y. w M h }
+
+-- what the search finds is the model's answer, of a map that is held
+pub question-told : (m : Map) (cells : List ℕ) (q : Question) (o : Found) (p : Place) → placed p ≡ cellAt (found o .cell)
+    → (AscL 0 (take (m .cells) cells) → All (Inside maxCoordinate) (take (m .cells) cells) → o ≡ foundAs (ask (m .size) (take (m .cells) cells) (asked q)))
+    → (M : model.Map) → Lent m cells M → placed p ≡ cellAt (question M (asked q) .cell)
+unfolding question
+question-told m cells q o p e f M h = rw (← h .1 .size) (search-placed (m .size) cells (m .cells) (asked q) o p e f (M .cells) (held m cells M h))

@@ -1,0 +1,3 @@
+-- The laws of crate `map_questions`.
+pub mod AskLaws
+pub mod Determinate

@@ -1,0 +1,2 @@
+-- What the contracts of crate `map_questions` cite.
+pub mod Asks

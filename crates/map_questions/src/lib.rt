@@ -1,0 +1,2 @@
+// The question of four shapes, put to a map.
+pub mod ask;

@@ -1,0 +1,2 @@
+-- The laws of crate `radii`.
+pub mod RadiusLaws
