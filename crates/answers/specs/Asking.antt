@@ -36,6 +36,10 @@ refusedWith n = record { refusal = n; count = 0 }
 abbrev pub HoldsSome : Map → (Tables → Type 0) → model.Map → Type 0
 HoldsSome m P M = (t : Tables) × Holds m t M × P t
 
+-- the n things v stand at the front of t′, and behind them is what t had there
+abbrev pub Front : List ℕ → ℕ → List ℕ → List ℕ → Type 0
+Front v n t t′ = (n ≡ length v) × (t′ ≡ v ++ drop n t)
+
 -- a lent output: what it was, what it is then, and the list that is wanted of a map
 pub record Output : Type 0 where
   pub was : List ℕ

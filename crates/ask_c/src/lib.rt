@@ -3,12 +3,13 @@ use floor::cell::Cell;
 use held::map::Map;
 use map_questions::ask::ask;
 use plane::point::Point;
-use question::search::Question;
 use questions::ask::Answer;
 use questions::ask::Place;
+use questions::numbered::question_of;
 ghost use mathlib.Core.Path.{_≡_};
-ghost use Rattle.ask_c.specs.Told.{foundOf, questionOf};
+ghost use Rattle.ask_c.specs.Told.{foundOf};
 ghost use Rattle.map_questions.specs.Asks.{Asks};
+ghost use Rattle.questions.specs.Numbered.{questionOf};
 ghost use Rattle.questions.specs.declared.ask.Answer.{Answer};
 
 // The refusal's number, whether a cell was found, and the cell; all else is zero where there is none.
@@ -17,22 +18,6 @@ pub struct Found {
     pub refusal: u8,
     pub some: bool,
     pub cell: Cell,
-}
-
-// 1 is a square, 2 a circle, 3 a sweep, any other number a point.
-fn question_of(shape: u8, p: Point, q: Point, extent: f64) -> Question
-    ensures { λ r. ⌜ r ≡ questionOf shape p q extent ⌝ }
-{
-    if shape == 1 {
-        return Question::Square(p, extent);
-    }
-    if shape == 2 {
-        return Question::Circle(p, extent);
-    }
-    if shape == 3 {
-        return Question::Sweep(p, q, extent);
-    }
-    Question::Point(p)
 }
 
 fn told(answer: Answer) -> Found

@@ -3,17 +3,15 @@ use Prim.Native.Nat.{ℕ, suc, _≤_, _<_, zero-le}
 use native.Mathlib.Decide.{ℕ-discrete}
 use native.Mathlib.Nat.{le-of-eq}
 use native.Mathlib.Omega.{arith}
-use mathlib.Core.Path.{_≡_, refl, sym, ap, _∙_, subst}
+use mathlib.Core.Path.{_≡_, refl, sym, ap, _∙_}
 use mathlib.Core.Logic.{_≢_, ⊎-elim}
 use mathlib.Core.Bool.{true, false, true≢false}
 use mathlib.Core.List.{List, [], _∷_}
-use lib.Dec.{T, eqb, eqb→eq, eqb-refl}
 use lib.ListN.{length}
-use Rattle.ieee.proofs.Tools.{or-cases, lt-or-ge}
+use Rattle.ieee.proofs.Tools.{lt-or-ge}
 use Rattle.model.specs.Maps.{AscL, add, cut, has, isSome, keys}
-use Rattle.model.proofs.MapLaws.{eqb-yes, eqb-no, or-left, or-right, keys-has, keys-units, units, has-add-same, has-add-other, has-cut-same, has-cut-other}
+use Rattle.model.proofs.MapLaws.{eqb-yes, eqb-no, keys-has, keys-units, units, has-add-same, has-add-other, has-cut-same, has-cut-other}
 use Rattle.model.proofs.OrderLaws.{asc-get, asc-units, ascL-add, ascL-cut}
-use Rattle.table.specs.Tables.{All}
 use Rattle.table.proofs.LookLaws.{look, absent-length}
 
 -- no key is below the first

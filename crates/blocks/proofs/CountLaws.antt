@@ -3,19 +3,19 @@ use Prim.Native.Nat.{ℕ, zero, suc, _+_, _-_, _*_, _≤_, _<_, zero-le}
 use native.Mathlib.Nat.{le-antisymm, le-refl}
 use native.Mathlib.Decide.{ℕ-discrete, decLt}
 use native.Mathlib.Omega.{arith}
-use mathlib.Core.Path.{_≡_, refl, sym, ap, _∙_, subst}
+use mathlib.Core.Path.{_≡_, refl, sym, _∙_, subst}
 use mathlib.Core.List.{List, []}
-use lib.Dec.{T, eqb}
+use lib.Dec.{T}
 use lib.ListN.{length, getD, replicate, length-replicate}
 use Rattle.model.specs.Blocks.{Blocks, Linked, here, on, adjacent, blockCount, blocksOf}
-use Rattle.model.specs.Cell.{apart, col, row}
 use Rattle.model.specs.Maps.{AscL, has}
-use Rattle.model.proofs.BlockLaws.{linked-end, linked-sym, linked-trans, pigeonhole}
+use Rattle.model.proofs.BlockLaws.{adjacent-sym, linked-end, linked-sym, linked-trans, pigeonhole}
 use Rattle.model.proofs.Blocks.{blocks-right}
+use Rattle.model.proofs.MapLaws.{has-at}
 use Rattle.blocks.specs.Forest.{Down, Root}
 use Rattle.blocks.specs.Grown.{Grown, Planted}
 use Rattle.blocks.proofs.ForestLaws.{root-one, root-some}
-use Rattle.blocks.proofs.PlaceLaws.{asc-one, has-at, has-place}
+use Rattle.blocks.proofs.PlaceLaws.{asc-one, has-place}
 
 -- ---- before any place is planted
 pub zeros-down : (n : ℕ) → Down (replicate n 0)
@@ -35,12 +35,6 @@ grown-none C p = record {
   linked = λ j r a b. absurd (omega arith);
   near = λ j l r a b h. absurd (omega arith);
 }
-
-adjacent-sym : (a b : ℕ) → adjacent a b ≡ adjacent b a
-unfolding adjacent
-adjacent-sym a b =
-    let e : apart (col a) (col b) + apart (row a) (row b) ≡ apart (col b) (col a) + apart (row b) (row a) = omega arith in
-    ap (λ (n : ℕ). eqb n 1) e
 
 -- ---- all places are planted
 module _ (C p : List ℕ) (joined : ℕ) (a : AscL 0 C) (d : Down p) (g : Grown C p 0 0 joined) where

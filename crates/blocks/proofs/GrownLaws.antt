@@ -14,6 +14,7 @@ use borrow.Author.Tests.{eq-eqb, ne-eqb}
 use Rattle.model.specs.Blocks.{Linked, here, adjacent}
 use Rattle.model.specs.Maps.{has, cut}
 use Rattle.model.proofs.BlockLaws.{linked-sym, linked-trans}
+use Rattle.model.proofs.MapLaws.{has-at, has-cases, has-first, has-later}
 use Rattle.model.proofs.MapLaws.{T→true, has-cut-same, has-cut-other}
 use Rattle.model.proofs.OrderLaws.{ascL-cut}
 use Rattle.table.proofs.AllLaws.{ascL-down}
@@ -22,7 +23,7 @@ use Rattle.blocks.specs.Forest.{Down, Root}
 use Rattle.blocks.specs.Forest as forest
 use Rattle.blocks.specs.Grown.{Grown}
 use Rattle.blocks.proofs.ForestLaws.{root-one, root-some, set-behind}
-use Rattle.blocks.proofs.PlaceLaws.{has-first, has-later, has-cases, has-at, asc-above}
+use Rattle.blocks.proofs.PlaceLaws.{asc-above}
 
 -- ---- no tree was joined
 module _ {C p q : List ℕ} {i m joined : ℕ} (n : ℕ) (d : Down p) (k : (j r : ℕ) → Root p j r → Root q j r) (g : Grown C p i m joined) where

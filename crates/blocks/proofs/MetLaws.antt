@@ -14,15 +14,16 @@ use Rattle.lists.proofs.Parts.{tail-is}
 use Rattle.model.specs.Blocks.{Linked, here, on, adjacent}
 use Rattle.model.specs.Cell.{W, apart, col, row}
 use Rattle.model.specs.Maps.{AscL}
+use Rattle.model.proofs.MapLaws.{has-at}
 use Rattle.table.specs.Tables.{rank, stands}
-use Rattle.table.proofs.AllLaws.{ascL-drop}
+use Rattle.table.proofs.AllLaws.{ascL-drop, ascL-less}
 use Rattle.table.proofs.LookLaws.{stands-inside}
 use Rattle.blocks.specs.Forest.{Down, Joined, Root, Sought}
 use Rattle.blocks.specs.Forest as forest
 use Rattle.blocks.specs.Grown.{Grown, Met, Planted}
 use Rattle.blocks.proofs.ForestLaws.{root-fixed}
 use Rattle.blocks.proofs.GrownLaws.{grown-closed, grown-moved, grown-planted, grown-same}
-use Rattle.blocks.proofs.PlaceLaws.{asc-above, asc-less, asc-one, has-at, rank-behind}
+use Rattle.blocks.proofs.PlaceLaws.{asc-above, asc-one, rank-behind}
 
 -- ---- sides
 test-one : (n : ℕ) → n ≡ 1 → T (eqb n 1)
@@ -123,7 +124,7 @@ pub above-at : (C : List ℕ) → AscL 0 C → (i l : ℕ) → i < l → l < len
 above-at C a i l h b e = go (decLt (i + 1) l)
   where
     go : Dec (i + 1 < l) → l ≡ i + 1
-    go (yes x) = absurd (omega (arith, asc-less 0 C i (i + 1) a (omega arith) (omega arith), asc-less 0 C (i + 1) l a x b))
+    go (yes x) = absurd (omega (arith, ascL-less 0 C i (i + 1) a (omega arith) (omega arith), ascL-less 0 C (i + 1) l a x b))
     go (no x) = omega arith
 
 -- r: the place of `key` in the part behind place i
@@ -160,4 +161,4 @@ planted {C} {p} {q} {u} {i} {n} {m} d room inside A B = record {
             ⊎-elim
             (λ s. B .kept l (A .there (suc i) joined g1 a l h b s (rw s at t)))
             (λ s. B .there (suc i) (joined + n) g2 a l h b s (rw s at t))
-            (later-side (getD C i 0) (getD C l 0) (asc-less 0 C i l a h b) t)
+            (later-side (getD C i 0) (getD C l 0) (ascL-less 0 C i l a h b) t)

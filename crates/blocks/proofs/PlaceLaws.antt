@@ -1,44 +1,20 @@
 -- The places of members, in ascending lists above all. Assumes nothing.
-use Prim.Native.Nat.{ℕ, zero, suc, _+_, _-_, _≤_, _<_, zero-le, suc-le-suc}
-use native.Mathlib.Nat.{le-of-suc-le-suc, not-suc-le-zero}
+use Prim.Native.Nat.{ℕ, suc, _+_, _-_, _≤_, _<_, zero-le, suc-le-suc}
 use native.Mathlib.Decide.{decLt}
 use native.Mathlib.Omega.{arith}
 use mathlib.Core.Path.{_≡_, sym, ap, _∙_}
-use mathlib.Core.Logic.{_⊎_, inl, inr, ⊎-elim}
-use mathlib.Core.Bool.{Bool, true, false, _||_}
+use mathlib.Core.Logic.{⊎-elim}
 use mathlib.Core.List.{List, [], _∷_}
-use lib.Dec.{T, eqb, eqb→eq, eqb-refl}
+use lib.Dec.{T}
 use lib.ListN.{length, drop, getD, length-drop}
 use lib.Seq.{getD-drop}
 use Rattle.model.specs.Maps.{AscL, has}
-use Rattle.model.proofs.MapLaws.{or-left, or-right}
+use Rattle.model.proofs.MapLaws.{has-cases}
 use Rattle.table.specs.Tables.{rank}
-use Rattle.table.proofs.AllLaws.{all-at, ascL-all, ascL-drop}
+use Rattle.table.proofs.AllLaws.{all-at, ascL-all, ascL-drop, ascL-less}
 use Rattle.table.proofs.RankLaws.{rank-above, rank-below}
 
--- ---- members
-pub has-first : (k : ℕ) (l : List ℕ) → T (has k (k ∷ l))
-unfolding has
-has-first k l = or-left (eqb k k) (has k l) (eqb-refl k)
-
-pub has-later : (j k : ℕ) (l : List ℕ) → T (has j l) → T (has j (k ∷ l))
-unfolding has
-has-later j k l u = or-right (eqb j k) (has j l) u
-
-pub has-cases : (j k : ℕ) (l : List ℕ) → T (has j (k ∷ l)) → (j ≡ k) ⊎ T (has j l)
-unfolding has
-has-cases j k l u = go (eqb j k) (eqb→eq j k) u
-  where
-    go : (b : Bool) → (T b → j ≡ k) → T (b || has j l) → (j ≡ k) ⊎ T (has j l)
-    go true e v = inl (e tt)
-    go false e v = inr v
-
--- what stands at a place is a member, and each member stands at a place
-pub has-at : (l : List ℕ) (j : ℕ) → j < length l → T (has (getD l j 0) l)
-has-at [] j h = absurd (not-suc-le-zero h)
-has-at (x ∷ l) zero h = has-first x l
-has-at (x ∷ l) (suc j) h = has-later (getD l j 0) x l (has-at l j (le-of-suc-le-suc h))
-
+-- each member stands at a place
 pub has-place : (k : ℕ) (l : List ℕ) → T (has k l) → (j : ℕ) × (j < length l) × (getD l j 0 ≡ k)
 unfolding has
 has-place k [] u = absurd u
@@ -51,19 +27,13 @@ has-place k (x ∷ l) u = ⊎-elim (λ e. (0, suc-le-suc zero-le, sym e)) (later
 pub asc-above : (lo k : ℕ) (l : List ℕ) → AscL lo l → T (has k l) → lo ≤ k
 asc-above lo k l a u = let r = has-place k l u in rw (sym (r .2)) (all-at (λ x. lo ≤ x) l (r .0) (ascL-all lo l a) (r .1))
 
-pub asc-less : (lo : ℕ) (l : List ℕ) (i j : ℕ) → AscL lo l → i < j → j < length l → getD l i 0 < getD l j 0
-asc-less lo [] i j a h k = absurd (not-suc-le-zero k)
-asc-less lo (x ∷ l) i zero a h k = absurd (not-suc-le-zero h)
-asc-less lo (x ∷ l) zero (suc j) a h k = all-at (λ y. suc x ≤ y) l j (ascL-all (suc x) l (a .1)) (le-of-suc-le-suc k)
-asc-less lo (x ∷ l) (suc i) (suc j) a h k = asc-less (suc x) l i j (a .1) (le-of-suc-le-suc h) (le-of-suc-le-suc k)
-
 -- a member stands at one place
 pub asc-one : (l : List ℕ) → AscL 0 l → (i j : ℕ) → i < length l → j < length l → getD l i 0 ≡ getD l j 0 → i ≡ j
 asc-one l a i j h k e = go (decLt i j) (decLt j i)
   where
     go : Dec (i < j) → Dec (j < i) → i ≡ j
-    go (yes b) d = absurd (omega (arith, asc-less 0 l i j a b k))
-    go (no b) (yes d) = absurd (omega (arith, asc-less 0 l j i a d h))
+    go (yes b) d = absurd (omega (arith, ascL-less 0 l i j a b k))
+    go (no b) (yes d) = absurd (omega (arith, ascL-less 0 l j i a d h))
     go (no b) (no d) = omega arith
 
 pub rank-at : (l : List ℕ) → AscL 0 l → (j : ℕ) → j < length l → rank (getD l j 0) l ≡ j
@@ -73,7 +43,7 @@ rank-at l a j h = go (rank-below (getD l j 0) l j h (omega arith)) (decLt (rank 
     r = rank (getD l j 0) l
 
     go : r ≤ j → Dec (r < j) → r ≡ j
-    go b (yes d) = absurd (let s : r < r = rank-above 0 (getD l j 0) l r a (omega arith) (asc-less 0 l r j a d h) in let x = r in omega arith)
+    go b (yes d) = absurd (let s : r < r = rank-above 0 (getD l j 0) l r a (omega arith) (ascL-less 0 l r j a d h) in let x = r in omega arith)
     go b (no d) = let x = r in omega arith
 
 -- a member that stands behind place i is found there

@@ -11,10 +11,11 @@ use borrow.Author.Tests.{lt-ltb, le-ltb, lt-leb, le-leb, eq-eqb, ne-eqb, eqb-tru
 use Rattle.ieee.proofs.Tools.{lt-or-ge}
 use Rattle.model.specs.Cell.{W, col, row}
 use Rattle.model.specs.Maps.{AscL, has, sift}
+use Rattle.model.proofs.SiftLaws.{sift-twice}
 use Rattle.columns.specs.Columns.{InColumn, columnOf, rowsFrom}
 use Rattle.table.specs.Tables.{rank}
 use Rattle.table.proofs.AllLaws.{all-from, all-map, ascL-drop}
-use Rattle.columns.proofs.SiftLaws.{all-sift, ascL-sift, has-sift, sift-below, sift-from, sift-none, sift-same, sift-twice}
+use Rattle.columns.proofs.SiftLaws.{all-sift, ascL-sift, has-sift, sift-below, sift-from, sift-none, sift-same}
 
 -- ---- order and members
 pub column-ascends : (x lo : ℕ) (l : List ℕ) → AscL lo l → AscL lo (columnOf x l)

@@ -8,6 +8,7 @@ use lib.Dec.{eqb, leb, ltb}
 use lib.ListN.{take, drop, take-append-drop}
 use borrow.Author.Tests.{lt-ltb, le-ltb, lt-leb, le-leb, eqb-true}
 use Rattle.model.specs.Maps.{AscL, has, sift}
+use Rattle.model.proofs.SiftLaws.{sift-append}
 use Rattle.table.specs.Tables.{All, rank}
 use Rattle.table.proofs.AllLaws.{all-map, ascL-down}
 use Rattle.table.proofs.RankLaws.{rank-splits}
@@ -26,25 +27,6 @@ pub sift-none : (f : ℕ → Bool) (l : List ℕ) → All (λ k. f k ≡ false) 
 unfolding sift
 sift-none f [] a = refl
 sift-none f (x ∷ l) a = rw (a .0) (sift-none f l (a .1))
-
-pub sift-append : (f : ℕ → Bool) (l m : List ℕ) → sift f (l ++ m) ≡ sift f l ++ sift f m
-unfolding sift
-sift-append f [] m = refl
-sift-append f (x ∷ l) m = go (f x) (sift-append f l m)
-  where
-    go : (b : Bool) → sift f (l ++ m) ≡ sift f l ++ sift f m → cond b (x ∷ sift f (l ++ m)) (sift f (l ++ m)) ≡ cond b (x ∷ sift f l) (sift f l) ++ sift f m
-    go true ih = ap (λ (s : List ℕ). x ∷ s) ih
-    go false ih = ih
-
-pub sift-twice : (f g : ℕ → Bool) (l : List ℕ) → sift g (sift f l) ≡ sift (λ k. f k && g k) l
-unfolding sift
-sift-twice f g [] = refl
-sift-twice f g (x ∷ l) = go (f x) (sift-twice f g l)
-  where
-    go : (b : Bool) → sift g (sift f l) ≡ sift (λ k. f k && g k) l
-        → sift g (cond b (x ∷ sift f l) (sift f l)) ≡ cond (b && g x) (x ∷ sift (λ k. f k && g k) l) (sift (λ k. f k && g k) l)
-    go true ih = rw ih
-    go false ih = ih
 
 -- ---- what passes
 pub all-sift : (f : ℕ → Bool) (l : List ℕ) → All (λ k. f k ≡ true) (sift f l)

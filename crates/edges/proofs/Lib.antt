@@ -4,4 +4,3 @@ pub mod PairLaws
 pub mod PointLaws
 pub mod ReadLaws
 pub mod RowLaws
-pub mod WalkLaws

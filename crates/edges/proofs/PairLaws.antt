@@ -4,7 +4,7 @@ use native.Mathlib.Omega.{arith}
 use mathlib.Core.Path.{_≡_, refl, sym, ap, _∙_}
 use mathlib.Core.List.{List, [], _∷_, _++_}
 use lib.ListN.{drop, getD, length, take}
-use Rattle.answers.specs.Asking.{Written}
+use Rattle.answers.specs.Asking.{Front, Written}
 use Rattle.model.specs.Answers.{allPairs, isOpen, openPairs}
 use Rattle.model.specs.Layer.{Layer, Pair, pairs}
 use Rattle.model.specs.Map as model
@@ -14,10 +14,11 @@ use Rattle.held.proofs.NamedLaws.{blocks-named, pairs-named}
 use Rattle.held.specs.Holds.{Holds, Tables}
 use Rattle.held.specs.declared.map.Map.{Map}
 use Rattle.edges.specs.Columns.{greaters, lessers, pairBlocks}
-use Rattle.edges.specs.Walks.{Front, Shown, ShownOpen, pairsOf, rowOf}
+use Rattle.edges.specs.Walks.{Shown, ShownOpen, pairsOf, rowOf}
 use Rattle.edges.proofs.ReadLaws.{inside, pairs-end, pairs-next, row-shut}
 use Rattle.edges.proofs.RowLaws.{EndsGrowing, OpenListed, RowListed, ends-more, ends-none, ends-pass}
-use Rattle.edges.proofs.WalkLaws.{Growing, growing-done, growing-more, growing-none, sift-append, sift-nil}
+use Rattle.answers.proofs.GrowLaws.{Growing, growing-done, growing-more, growing-none}
+use Rattle.model.proofs.SiftLaws.{sift-append, sift-nil}
 
 -- ---- how many pairs k points have at most
 unfoldable pub tri : ℕ → ℕ

@@ -8,7 +8,7 @@ use mathlib.Core.List.{List, [], _∷_, _++_}
 use mathlib.Core.Option.{Option, none, some}
 use lib.ListN.{drop, drop-of-length-le, getD, length, set, take}
 use lib.Seq.{drop-cons, length-take-le}
-use Rattle.answers.specs.Asking.{Written}
+use Rattle.answers.specs.Asking.{Front, Written}
 use Rattle.copy.specs.Copied.{Copied}
 use Rattle.table.proofs.ListedLaws.{keys-at}
 use Rattle.held.proofs.LayerLaws.{codes-count, layer-blocks, layer-few, layer-keys, layer-statuses, statuses-length}
@@ -25,8 +25,8 @@ use Rattle.held.proofs.NamedLaws.{blocks-named}
 use Rattle.held.proofs.PadLaws.{copied}
 use Rattle.held.specs.Holds.{Holds, Tables}
 use Rattle.held.specs.declared.map.Map.{Map}
-use Rattle.edges.specs.Walks.{Front}
-use Rattle.edges.proofs.WalkLaws.{Growing, growing-done, growing-none, growing-pass, growing-put, sift-append, sift-nil, sift-one, sift-out}
+use Rattle.answers.proofs.GrowLaws.{Growing, growing-done, growing-none, growing-pass, growing-put}
+use Rattle.model.proofs.SiftLaws.{sift-append, sift-nil, sift-one, sift-out}
 
 -- ---- the point at a place
 abbrev pub nowhere : ℕ × Point

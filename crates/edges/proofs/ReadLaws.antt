@@ -19,7 +19,7 @@ use Rattle.table.proofs.ListedLaws.{keys-length}
 use Rattle.held.specs.Layers.{edgeAt}
 use Rattle.edges.specs.Walks.{Shown, ShownOpen, rowFrom, rowOf}
 use Rattle.edges.proofs.PointLaws.{key-at, nowhere, pointAt, reads-blocked, reads-free, unblocked}
-use Rattle.edges.proofs.WalkLaws.{sift-append, sift-nil, sift-one, sift-out}
+use Rattle.model.proofs.SiftLaws.{sift-append, sift-nil, sift-one, sift-out}
 
 -- ---- a pair by its code
 abbrev pub blockOf : Option (Option ℕ) → Option ℕ

@@ -11,7 +11,8 @@ use Rattle.held.specs.Codes.{blockCode}
 use Rattle.edges.specs.Columns.{greaters, lessers, pairBlocks}
 use Rattle.edges.specs.Walks.{Grows, Shown, ShownOpen, rowFrom, rowOf}
 use Rattle.edges.proofs.ReadLaws.{pairAt, reads-blocker, reads-clear, reads-key, reads-none, reads-open, reads-other, reads-shut, reads-some, row-end}
-use Rattle.edges.proofs.WalkLaws.{Growing, growing-done, growing-more, growing-none, growing-pass, growing-put, sift-nil}
+use Rattle.answers.proofs.GrowLaws.{Growing, growing-done, growing-more, growing-none, growing-pass, growing-put}
+use Rattle.model.proofs.SiftLaws.{sift-nil}
 
 -- ---- the columns, one pair longer
 lessers-snoc : (v : List Pair) (p : Pair) → lessers (v ++ (p ∷ [])) ≡ lessers v ++ (p .lesser ∷ [])

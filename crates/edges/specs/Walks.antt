@@ -3,16 +3,13 @@ use Prim.Native.Nat.{ℕ, _+_, _≤_}
 use mathlib.Core.Path.{_≡_}
 use mathlib.Core.List.{List, _++_}
 use lib.ListN.{drop, getD, length}
+use Rattle.answers.specs.Asking.{Front}
 use Rattle.model.specs.Layer.{Layer, Pair, pairs, pairsFrom}
 use Rattle.model.specs.Limits.{maxPoints}
 use Rattle.model.specs.Maps.{Asc, keys}
 use Rattle.held.specs.Codes.{AllNamed, codes}
 use Rattle.held.specs.Pairs.{Pairs, PairsNamed}
 use Rattle.held.specs.Layers.{blocksOf, edgeAt}
-
--- the n things v stand at the front of t′, and behind them is what t had there
-abbrev pub Front : List ℕ → ℕ → List ℕ → List ℕ → Type 0
-Front v n t t′ = (n ≡ length v) × (t′ ≡ v ++ drop n t)
 
 -- u is listed behind whatever n pairs v stand at the front of t, and there are r then; col names the column
 abbrev pub Grows : (List Pair → List ℕ) → List Pair → ℕ → ℕ → List ℕ → List ℕ → Type 0

@@ -14,7 +14,8 @@ ghost use Rattle.model.specs.Maps.{sift};
 ghost use Rattle.held.specs.Pairs.{pairPlaces};
 ghost use Rattle.edges.specs.Columns.{greaters, lessers, pairBlocks};
 ghost use Rattle.edges.specs.Lists.{AllPairs, OpenPairs};
-ghost use Rattle.edges.specs.Walks.{Front, Grows, Shown, ShownOpen, pairsOf, rowOf};
+ghost use Rattle.answers.specs.Asking.{Front};
+ghost use Rattle.edges.specs.Walks.{Grows, Shown, ShownOpen, pairsOf, rowOf};
 
 // The pairs of the i-th point with those after it, behind the `count` pairs that are listed already.
 fn list_row(

@@ -2,9 +2,9 @@
 use floor::floor::Floor;
 use grid::change::change_cells;
 use plane::point::Point;
-use question::search::Question;
 use question::search::search;
 use questions::ask::judge;
+use questions::numbered::question_of;
 ghost use mathlib.Core.List.{List};
 ghost use mathlib.Core.Path.{_≡_};
 ghost use Prim.Native.Nat.{ℕ};
@@ -12,26 +12,8 @@ ghost use lib.ListN.{length};
 ghost use Rattle.model.specs.Shape.{ask};
 ghost use Rattle.floor.specs.Floor.{Holds};
 ghost use Rattle.questions.specs.Ask.{refuseAsk};
-ghost use Rattle.question.specs.Question.{asked};
 ghost use Rattle.grid_c.specs.Called.{Called};
 ghost use Rattle.grid_c.specs.Told.{question, told};
-
-// 1 is a square, 2 a circle, 3 a sweep, any other number a point.
-fn question_of(shape: u8, x0: f64, y0: f64, x1: f64, y1: f64, extent: f64) -> Question
-    ensures { λ r. ⌜ asked r ≡ question shape x0 y0 x1 y1 extent ⌝ }
-{
-    let p = Point { x: x0, y: y0 };
-    if shape == 1 {
-        return Question::Square(p, extent);
-    }
-    if shape == 2 {
-        return Question::Circle(p, extent);
-    }
-    if shape == 3 {
-        return Question::Sweep(p, Point { x: x1, y: y1 }, extent);
-    }
-    Question::Point(p)
-}
 
 // The key of the cell found, 0 for none, or the refusal's number: no key is that small. What `ask` answers, with no `Place`
 // on the way: a match on it would be a branch.
@@ -50,7 +32,12 @@ pub extern "C" fn runcedau_floor_ask(
     ensures { λ r. ⌜ ((C : List ℕ) → Holds (now (cells .entry)) count C
         → r ≡ told (refuseAsk (length (now (cells .entry))) size count (question shape x0 y0 x1 y1 extent)) (ask size C (question shape x0 y0 x1 y1 extent))) ⌝ }
 {
-    let question = question_of(shape, x0, y0, x1, y1, extent);
+    let question = question_of(
+        shape,
+        Point { x: x0, y: y0 },
+        Point { x: x1, y: y1 },
+        extent,
+    );
     let number = judge(cells.len(), size, count, question);
     if number != 0 {
         return number as u64;

@@ -6,33 +6,20 @@ use mathlib.Core.Path.{_≡_, refl, sym, ap, _∙_}
 use mathlib.Core.Logic.{_≢_, _⊎_, inl, inr, ⊎-elim, _↔_}
 use mathlib.Core.Bool.{Bool, true, false, not, cond, _||_}
 use mathlib.Core.List.{List, [], _∷_, _++_}
-use lib.Dec.{T, eqb, eqb→eq, eqb-refl, T-not}
+use lib.Dec.{T, eqb, eqb→eq, T-not}
 use lib.ListN.{length, getD}
 use Rattle.ieee.proofs.Tools.{or-cases}
 use Rattle.model.specs.Maps.{has, sift, AscL}
 use Rattle.model.specs.Cell.{col, row, apart}
 use Rattle.model.specs.Blocks.{adjacent, Linked, here, on, touches, union, joinCell, blocksOf}
-use Rattle.model.proofs.MapLaws.{T→true, or-left, or-right, has-append}
+use Rattle.model.proofs.MapLaws.{T→true, or-left, or-right, has-append, has-cases, has-first, has-later}
 
 -- ---- adjacency: all that is used of it
-adjacent-sym : (a b : ℕ) → adjacent a b ≡ adjacent b a
+pub adjacent-sym : (a b : ℕ) → adjacent a b ≡ adjacent b a
 unfolding adjacent
 adjacent-sym a b =
     let e : apart (col a) (col b) + apart (row a) (row b) ≡ apart (col b) (col a) + apart (row b) (row a) = omega arith in
     ap (λ n. eqb n 1) e
-
--- ---- members
-has-first : (k : ℕ) (l : List ℕ) → T (has k (k ∷ l))
-unfolding has
-has-first k l = or-left (eqb k k) (has k l) (eqb-refl k)
-
-has-later : (j k : ℕ) (l : List ℕ) → T (has j l) → T (has j (k ∷ l))
-unfolding has
-has-later j k l u = or-right (eqb j k) (has j l) u
-
-has-cases : (j k : ℕ) (l : List ℕ) → T (has j (k ∷ l)) → (j ≡ k) ⊎ T (has j l)
-unfolding has
-has-cases j k l u = ⊎-elim (λ e. inl (eqb→eq j k e)) inr (or-cases (eqb j k) (has j l) u)
 
 touches-into : (k j : ℕ) (b : List ℕ) → T (has j b) → T (adjacent k j) → T (touches k b)
 unfolding touches has

@@ -1,8 +1,7 @@
 -- The corner changes of a batch: every cell whose status altered is listed, with its new status. Assumes nothing.
 use lib.Ieee.Fits.{and-l, and-r}
-use Prim.Native.Nat.{ℕ, zero, suc, _+_, _-_, _*_, _≤_, _<_}
+use Prim.Native.Nat.{ℕ, suc, _+_, _-_, _*_, _≤_, _<_}
 use native.Mathlib.Decide.{ℕ-discrete}
-use native.Mathlib.Nat.{le-of-suc-le-suc, not-suc-le-zero}
 use native.Mathlib.Omega.{arith}
 use mathlib.Core.Path.{_≡_, refl, subst}
 use mathlib.Core.Logic.{_≢_, _⊎_, inl, inr}
@@ -17,7 +16,7 @@ use Rattle.model.specs.Corner.{Bits, zero4, anyBit, sameBits, corner, st
 use Rattle.model.specs.Batch.{Batch, altered, met, cornerChanges}
 use Rattle.model.specs.Limits.{maxCoordinate}
 use Rattle.model.specs.Good.{Inside}
-use Rattle.model.proofs.MapLaws.{true→T, or-left, or-right, has-append, decT, beq-same}
+use Rattle.model.proofs.MapLaws.{true→T, or-left, or-right, has-append, decT, beq-same, has-at}
 use Rattle.model.proofs.OrderLaws.{asc-down}
 use Rattle.model.proofs.BitLaws.{no-bit}
 
@@ -36,10 +35,7 @@ inside-deep k h = omega arith
 
 -- ---- members
 has-getD : (i : ℕ) (l : List ℕ) (b : ℕ) → i < length l → b ≡ getD l i 0 → T (has b l)
-unfolding has
-has-getD i [] b h e = absurd (not-suc-le-zero h)
-has-getD zero (x ∷ l) b h e = rw e (or-left (eqb x x) (has x l) (eqb-refl x))
-has-getD (suc i) (x ∷ l) b h e = or-right (eqb b x) (has b l) (has-getD i l b (le-of-suc-le-suc h) e)
+has-getD i l b h e = rw e (has-at l i h)
 
 abbrev All : (ℕ → Type 0) → List ℕ → Type 0
 All P [] = Unit {0}

@@ -1,4 +1,5 @@
 pub mod MapLaws
+pub mod SiftLaws
 pub mod OrderLaws
 pub mod BitLaws
 pub mod EdgeLaws

@@ -1,12 +1,14 @@
 -- Laws of the maps and sets of specs/Maps.antt; none asks for an order. Assumes nothing.
-use Prim.Native.Nat.{ℕ}
+use Prim.Native.Nat.{ℕ, zero, suc, _<_}
+use native.Mathlib.Nat.{le-of-suc-le-suc, not-suc-le-zero}
 use mathlib.Core.Path.{_≡_, refl, sym, ap, _∙_}
-use mathlib.Core.Logic.{_≢_, _⊎_, inl, inr}
+use mathlib.Core.Logic.{_≢_, _⊎_, inl, inr, ⊎-elim}
 use mathlib.Core.Bool.{Bool, true, false, cond, _||_, Bool·beq}
 use mathlib.Core.List.{List, [], _∷_, _++_}
 use mathlib.Core.Option.{none, some, Option·map}
 use lib.Dec.{T, eqb, ltb, eqb→eq, eqb-refl}
-use Rattle.ieee.proofs.Tools.{T-true}
+use lib.ListN.{getD, length}
+use Rattle.ieee.proofs.Tools.{T-true, or-cases}
 use Rattle.model.specs.Maps.{get, put, del, mapV, keys, isSome, has, add, cut}
 
 -- ---- Booleans
@@ -44,6 +46,25 @@ or-left false b t = absurd t
 pub or-right : (a b : Bool) → T b → T (a || b)
 or-right true b t = tt
 or-right false b t = t
+
+-- ---- members
+pub has-first : (k : ℕ) (l : List ℕ) → T (has k (k ∷ l))
+unfolding has
+has-first k l = or-left (eqb k k) (has k l) (eqb-refl k)
+
+pub has-later : (j k : ℕ) (l : List ℕ) → T (has j l) → T (has j (k ∷ l))
+unfolding has
+has-later j k l u = or-right (eqb j k) (has j l) u
+
+pub has-cases : (j k : ℕ) (l : List ℕ) → T (has j (k ∷ l)) → (j ≡ k) ⊎ T (has j l)
+unfolding has
+has-cases j k l u = ⊎-elim (λ e. inl (eqb→eq j k e)) inr (or-cases (eqb j k) (has j l) u)
+
+-- what stands at a place is a member
+pub has-at : (l : List ℕ) (j : ℕ) → j < length l → T (has (getD l j 0) l)
+has-at [] j h = absurd (not-suc-le-zero h)
+has-at (x ∷ l) zero h = has-first x l
+has-at (x ∷ l) (suc j) h = has-later (getD l j 0) x l (has-at l j (le-of-suc-le-suc h))
 
 -- ---- maps
 module _ {A : Type 0} where

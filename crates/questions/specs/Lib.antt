@@ -1,2 +1,3 @@
 -- What the contracts of crate `questions` cite.
 pub mod Ask
+pub mod Numbered

@@ -5,11 +5,10 @@ use native.Mathlib.Omega.{arith}
 use mathlib.Core.Path.{sym, subst}
 use mathlib.Core.Logic.{⊎-elim}
 use mathlib.Core.List.{List, [], _∷_}
-use lib.Dec.{T, eqb, eqb→eq, eqb-refl}
+use lib.Dec.{T}
 use lib.ListN.{length, take, drop, getD}
-use Rattle.ieee.proofs.Tools.{or-cases}
 use Rattle.model.specs.Maps.{AscL, has}
-use Rattle.model.proofs.MapLaws.{or-left, or-right}
+use Rattle.model.proofs.MapLaws.{has-cases, has-first, has-later}
 use Rattle.table.specs.Tables.{All}
 
 pub all-at : (P : ℕ → Type 0) (l : List ℕ) (i : ℕ) → All P l → i < length l → P (getD l i 0)
@@ -30,12 +29,11 @@ pub has-all : (P : ℕ → Type 0) (l : List ℕ) (x : ℕ) → All P l → T (h
 unfolding has
 has-all P [] x a t = absurd t
 has-all P (y ∷ l) x a t =
-    ⊎-elim (λ e. subst P (sym (eqb→eq x y e)) (a .0)) (λ u. has-all P l x (a .1) u) (or-cases (eqb x y) (has x l) t)
+    ⊎-elim (λ e. subst P (sym e) (a .0)) (λ u. has-all P l x (a .1) u) (has-cases x y l t)
 
 pub all-has : (P : ℕ → Type 0) (l : List ℕ) → ((x : ℕ) → T (has x l) → P x) → All P l
-unfolding has
 all-has P [] f = tt
-all-has P (y ∷ l) f = (f y (or-left (eqb y y) (has y l) (eqb-refl y)), all-has P l (λ x t. f x (or-right (eqb x y) (has x l) t)))
+all-has P (y ∷ l) f = (f y (has-first y l), all-has P l (λ x t. f x (has-later x y l t)))
 
 -- ---- ascending lists
 pub ascL-down : (lo lo′ : ℕ) (l : List ℕ) → lo ≤ lo′ → AscL lo′ l → AscL lo l
@@ -55,3 +53,10 @@ ascL-take lo (suc n) (x ∷ l) a = (a .0, ascL-take (suc x) n l (a .1))
 pub ascL-all : (lo : ℕ) (l : List ℕ) → AscL lo l → All (λ x. lo ≤ x) l
 ascL-all lo [] a = tt
 ascL-all lo (x ∷ l) a = (a .0, all-map l (λ y h. omega arith) (ascL-all (suc x) l (a .1)))
+
+-- a later place, a greater key
+pub ascL-less : (lo : ℕ) (l : List ℕ) (i j : ℕ) → AscL lo l → i < j → j < length l → getD l i 0 < getD l j 0
+ascL-less lo [] i j a h k = absurd (not-suc-le-zero k)
+ascL-less lo (x ∷ l) i zero a h k = absurd (not-suc-le-zero h)
+ascL-less lo (x ∷ l) zero (suc j) a h k = all-at (λ y. suc x ≤ y) l j (ascL-all (suc x) l (a .1)) (le-of-suc-le-suc k)
+ascL-less lo (x ∷ l) (suc i) (suc j) a h k = ascL-less (suc x) l i j (a .1) (le-of-suc-le-suc h) (le-of-suc-le-suc k)

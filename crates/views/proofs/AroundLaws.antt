@@ -8,9 +8,11 @@ use lib.Ieee.{Float}
 use lib.IntN.{ℤ, pos, negsuc, natAbs}
 use lib.ListN.{drop, getD, length, set}
 use borrow.Author.Tests.{ltb-false}
+use Rattle.answers.specs.Asking.{Front}
 use Rattle.answers.proofs.PassedLaws.{or-parts}
 use Rattle.ieee.specs.Whole.{biased}
 use Rattle.model.proofs.KeyLaws.{Asked}
+use Rattle.model.proofs.SiftLaws.{sift-end, sift-kept, sift-left}
 use Rattle.model.specs.Answers.{free}
 use Rattle.model.specs.Cell.{W, eight, key, origin}
 use Rattle.model.specs.Good.{Inside}
@@ -21,8 +23,8 @@ use Rattle.model.specs.Refusal.{offMap}
 use Rattle.held.specs.Codes.{blockCode}
 use Rattle.looks.proofs.NamedLaws.{sweep-named}
 use Rattle.table.specs.Tables.{All}
-use Rattle.views.specs.Wrote.{Wrote, steps}
-use Rattle.views.proofs.FillLaws.{Filling, filling-done, filling-none, filling-pass, filling-put, sift-end, sift-kept, sift-left}
+use Rattle.views.specs.Kept.{steps}
+use Rattle.views.proofs.FillLaws.{Filling, filling-done, filling-none, filling-pass, filling-put}
 use Rattle.views.proofs.FreeLaws.{found-none, found-some}
 
 -- ---- room around a cell
@@ -70,5 +72,5 @@ module _ (size radius : Float) (C : List ℕ) (k : ℕ) where
           filling-pass (Told C) left 8 a a′ n i w more
           (λ h. sift-left goes (eight k) i 0 more (found-some (tests size radius .sweep C k (getD (eight k) i 0) .cell) r (sweep-named size radius C k (getD (eight k) i 0) (h .1)) (e (h .0) (h .1)) z))
 
-    pub steps-all : 8 ≤ i → Told C → Wrote (steps size radius C k) a a′ n
+    pub steps-all : 8 ≤ i → Told C → Front (steps size radius C k) n a a′
     steps-all h t = filling-done (Told C) left 8 a a′ n i w t (sift-end goes (eight k) i h)

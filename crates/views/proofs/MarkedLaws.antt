@@ -9,11 +9,12 @@ use lib.Dec.{eqb}
 use lib.ListN.{drop, drop-of-length-le, getD, length, set}
 use lib.Seq.{drop-cons}
 use borrow.Author.Tests.{eq-eqb, ne-eqb}
+use Rattle.answers.specs.Asking.{Front}
 use Rattle.model.specs.Answers.{openEdge}
 use Rattle.model.specs.Layer.{Edges, Points, edge}
 use Rattle.model.specs.Maps.{keys, sift}
 use Rattle.held.specs.Codes.{NamedPair, pairCode}
-use Rattle.views.specs.Wrote.{Wrote, marked}
+use Rattle.views.specs.Kept.{marked}
 use Rattle.views.proofs.FillLaws.{Filling, filling-done, filling-none, filling-pass, filling-put}
 use Rattle.views.proofs.FreeLaws.{pair-open}
 
@@ -41,7 +42,7 @@ module _ (points row : List ℕ) where
       pub marking-pass : (getD row i 0 ≡ 1 → ⊥) → Marking a a′ n (i + 1)
       marking-pass z = filling-pass (Unit {0}) left (length points) a a′ n i w more (λ h. next false (ne-eqb (getD row i 0) 1 z))
 
-    pub marking-all : length points ≤ i → Wrote (marked points row) a a′ n
+    pub marking-all : length points ≤ i → Front (marked points row) n a a′
     marking-all h = filling-done (Unit {0}) left (length points) a a′ n i w tt none
       where
         none : left tt i ≡ []

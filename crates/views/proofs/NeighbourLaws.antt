@@ -9,7 +9,7 @@ use lib.Ieee.{Float}
 use lib.IntN.{ℤ}
 use lib.ListN.{length, take}
 use lib.Seq.{length-take-le}
-use Rattle.answers.specs.Asking.{HoldsSome, Written, refusedWith}
+use Rattle.answers.specs.Asking.{Front, HoldsSome, Written, refusedWith}
 use Rattle.answers.specs.declared.judge.Count.{Count}
 use Rattle.answers.proofs.ListingLaws.{listing-done}
 use Rattle.floor.proofs.FloorLaws.{holds-cells}
@@ -24,7 +24,7 @@ use Rattle.looks.proofs.NamedLaws.{square-named}
 use Rattle.table.specs.Tables.{All}
 use Rattle.held.specs.declared.map.Map.{Map}
 use Rattle.held.proofs.RoomLaws.{Enough}
-use Rattle.views.specs.Wrote.{Wrote, steps}
+use Rattle.views.specs.Kept.{steps}
 use Rattle.views.proofs.AroundLaws.{Told}
 use Rattle.views.specs.Seen.{Beside, besideLengths as lengths, refusal}
 use Rattle.views.proofs.CallLaws.{few-cells, key-inner, rooms}
@@ -90,7 +90,7 @@ module _ {m : Map} {cells out : List ℕ} {x y : ℤ} (g : Going m cells out x y
       taken-listed r f w =
           listed out r (ap (λ (c : Count). c .refusal) w) (λ M h. written-none r out (λ M. neighbours M (key x y)) M w (ap (neighbours M) (sym q) ∙ none-beside m cells M h k s sq f))
 
-      pub steps-listed : (out′ : List ℕ) (found : ℕ) → s ≡ 0 → (AscL 0 used-cells → All (Inside maxCoordinate) used-cells → Wrote (steps (m .size) (m .radius) used-cells k) out out′ found)
+      pub steps-listed : (out′ : List ℕ) (found : ℕ) → s ≡ 0 → (AscL 0 used-cells → All (Inside maxCoordinate) used-cells → Front (steps (m .size) (m .radius) used-cells k) found out out′)
           → Beside m cells out x y out′ (record { refusal = 0; count = found })
       steps-listed out′ found f w =
           listed out′ (record { refusal = 0; count = found }) refl

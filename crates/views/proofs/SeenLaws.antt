@@ -9,6 +9,7 @@ use mathlib.Core.Option.{Option}
 use lib.Dec.{eqb}
 use lib.Ieee.{Float}
 use lib.ListN.{drop, drop-of-length-le, getD, length, set}
+use Rattle.answers.specs.Asking.{Front}
 use Rattle.held.specs.Layers.{blocksOf, statusesOf}
 use Rattle.model.specs.Answers.{free}
 use Rattle.model.specs.Corner.{Bits, number, sees}
@@ -20,7 +21,7 @@ use Rattle.model.specs.Maps.{AscL, keys, sift}
 use Rattle.held.specs.Codes.{AllNamed, Named, blockCode, codes}
 use Rattle.table.specs.Tables.{All}
 use Rattle.table.proofs.ListedLaws.{keys-length}
-use Rattle.views.specs.Wrote.{Wrote, seen}
+use Rattle.views.specs.Kept.{seen}
 use Rattle.views.proofs.AroundLaws.{Told}
 use Rattle.views.proofs.FillLaws.{Filling, filling-done, filling-none, filling-pass, filling-put}
 use Rattle.views.proofs.FreeLaws.{found-is, found-none, found-some}
@@ -108,7 +109,7 @@ module _ (size radius : Float) (C points statuses blockers : List ℕ) (k : ℕ)
       pub seeing-pass : r ≡ false → Seeing a a′ n (i + 1)
       seeing-pass z = filling-pass (Lent C points statuses blockers) left (length points) a a′ n i w more (λ h. next h false z)
 
-    pub seeing-all : length points ≤ i → (h : Lent C points statuses blockers) → Wrote (seen size radius C k (h .ps)) a a′ n
+    pub seeing-all : length points ≤ i → (h : Lent C points statuses blockers) → Front (seen size radius C k (h .ps)) n a a′
     seeing-all b h = filling-done (Lent C points statuses blockers) left (length points) a a′ n i w h none
       where
         none : left h i ≡ []

@@ -8,7 +8,7 @@ use lib.IntN.{ℤ}
 use lib.ListN.{drop, getD, length, length-drop, take}
 use lib.Seq.{getD-drop, getD-take, length-take-le}
 use borrow.Author.Tests.{lt-ltb}
-use Rattle.answers.specs.Asking.{HoldsSome}
+use Rattle.answers.specs.Asking.{Front, HoldsSome}
 use Rattle.answers.proofs.ListingLaws.{listing-done}
 use Rattle.floor.proofs.FloorLaws.{holds-cells}
 use Rattle.held.specs.Layers.{blocksOf, edgeAt, statusesOf}
@@ -16,10 +16,11 @@ use Rattle.model.specs.Answers.{free, freePoints, fromElsewhere, fromPoint, vis
 use Rattle.model.specs.Cell.{key}
 use Rattle.model.specs.Corner.{sees}
 use Rattle.model.specs.Good.{Inside}
-use Rattle.model.specs.Layer.{Point, Points, edge}
+use Rattle.model.specs.Layer.{Points, edge}
 use Rattle.model.specs.Limits.{maxCoordinate, maxPoints}
 use Rattle.model.specs.Map as model
-use Rattle.model.specs.Maps.{AscL, has, keys, sift}
+use Rattle.model.specs.Maps.{AscL, has, keys}
+use Rattle.model.proofs.SiftLaws.{sift-twice}
 use Rattle.model.proofs.MapLaws.{keys-has}
 use Rattle.model.proofs.OrderLaws.{asc-keys}
 use Rattle.held.specs.Codes.{AllNamed, NamedPair, codes, pairCode}
@@ -32,21 +33,11 @@ use Rattle.held.proofs.LayerLaws.{layer-blocks, layer-keys, layer-statuses}
 use Rattle.held.proofs.NamedLaws.{blocks-named, pairs-named}
 use Rattle.held.proofs.RoomLaws.{Enough}
 use Rattle.held.proofs.PlaceLaws.{rank-at, rank-inside}
-use Rattle.views.specs.Wrote.{Wrote, marked, seen}
+use Rattle.views.specs.Kept.{marked, seen}
 use Rattle.views.specs.Seen.{InSight, refusal, sightLengths as lengths}
 use Rattle.views.proofs.CallLaws.{few-cells, few-points, rooms}
 use Rattle.views.proofs.MarkedLaws.{Tells, marked-open}
 use Rattle.views.proofs.WroteLaws.{written-list}
-
--- sifted twice
-sift-both : (f g : ℕ × Point → Bool) (l : Points) → sift g (sift f l) ≡ sift (λ q. f q && g q) l
-unfolding sift
-sift-both f g [] = refl
-sift-both f g (x ∷ l) = go (f x) (sift-both f g l)
-  where
-    go : (b : Bool) → sift g (sift f l) ≡ sift (λ q. f q && g q) l → sift g (cond b (x ∷ sift f l) (sift f l)) ≡ cond (b && g x) (x ∷ sift (λ q. f q && g q) l) (sift (λ q. f q && g q) l)
-    go true ih = rw ih
-    go false ih = ih
 
 -- ---- of the map that is held
 module _ (m : Map) (t : Tables) (M : model.Map) (h : Holds m t M) (k : ℕ) where
@@ -108,7 +99,7 @@ module _ (m : Map) (t : Tables) (M : model.Map) (h : Holds m t M) (k : ℕ) wher
     unfolding fromElsewhere freePoints
     from-elsewhere s =
         chosen false s
-        ∙ ap keys (sift-both (λ p. free (p .1 .block)) (λ q. sees k (q .0) (q .1 .bits) && free (model.tests (M .size) (M .layer .radius) .sweep (M .cells) k (q .0) .cell)) ps)
+        ∙ ap keys (sift-twice (λ p. free (p .1 .block)) (λ q. sees k (q .0) (q .1 .bits) && free (model.tests (M .size) (M .layer .radius) .sweep (M .cells) k (q .0) .cell)) ps)
         ∙ rw (holds-cells (t .cells) (m .cells) (M .cells) (h .cells), h .size, h .radius) refl
 
 -- nothing is refused
@@ -152,12 +143,12 @@ module _ {m : Map} {t : Tables} {out : List ℕ} {x y : ℤ} (g : Going m t out 
         (omega (arith, w, points-used), omega (arith, points-used, few, room .1 .1 .1 .1 .1 .0))
 
   module _ (k : ℕ) (q : k ≡ key x y) (at : ℕ) (p : AscL 0 (take (m .points) (t .points)) → at ≡ rank k (take (m .points) (t .points))) (out′ : List ℕ) (found : ℕ) where
-    listed : (l : model.Map → List ℕ) → ((M : model.Map) → Holds m t M → (visibleFrom M k ≡ l M) × Wrote (l M) out out′ found) → InSight m t out x y out′ (record { refusal = 0; count = found })
+    listed : (l : model.Map → List ℕ) → ((M : model.Map) → Holds m t M → (visibleFrom M k ≡ l M) × Front (l M) found out out′) → InSight m t out x y out′ (record { refusal = 0; count = found })
     listed l f =
         listing-done (refusal m (lengths t out) x y) 0 (HoldsSome m (λ u. u ≡ t)) (record { was = out; is = out′; wanted = λ M. visibleFrom M (key x y) } ∷ []) (record { refusal = 0; count = found }) (sym (g .pass)) refl refl
         (λ M h. let v = f M (subst (λ (u : Tables). Holds m u M) (h .2) (h .1)) in written-list found out out′ (λ M. visibleFrom M (key x y)) M (l M) (ap (visibleFrom M) (sym q) ∙ v .0) (v .1))
 
-    pub paired-listed : stands k at (take (m .points) (t .points)) ≡ true → Wrote (marked (take (m .points) (t .points)) (take (64 * at + m .points - 64 * at) (drop (64 * at) (t .pairs)))) out out′ found
+    pub paired-listed : stands k at (take (m .points) (t .points)) ≡ true → Front (marked (take (m .points) (t .points)) (take (64 * at + m .points - 64 * at) (drop (64 * at) (t .pairs)))) found out out′
         → InSight m t out x y out′ (record { refusal = 0; count = found })
     paired-listed s f =
         listed (λ M. marked (take (m .points) (t .points)) (take (64 * at + m .points - 64 * at) (drop (64 * at) (t .pairs))))
@@ -165,7 +156,7 @@ module _ {m : Map} {t : Tables} {out : List ℕ} {x y : ℤ} (g : Going m t out 
 
     pub seen-listed : stands k at (take (m .points) (t .points)) ≡ false
         → ((ps : Points) → AscL 0 (take (m .cells) (t .cells)) → All (Inside maxCoordinate) (take (m .cells) (t .cells)) → take (m .points) (t .points) ≡ keys ps → take (m .points) (t .statuses) ≡ statusesOf ps
-        → take (m .points) (t .blockers) ≡ codes (blocksOf ps) → AllNamed (blocksOf ps) → Wrote (seen (m .size) (m .radius) (take (m .cells) (t .cells)) k ps) out out′ found)
+        → take (m .points) (t .blockers) ≡ codes (blocksOf ps) → AllNamed (blocksOf ps) → Front (seen (m .size) (m .radius) (take (m .cells) (t .cells)) k ps) found out out′)
         → InSight m t out x y out′ (record { refusal = 0; count = found })
     seen-listed s f =
         listed (λ M. seen (m .size) (m .radius) (take (m .cells) (t .cells)) k (M .layer .points))

@@ -1,3 +1,3 @@
 -- What the contracts of crate `views` cite.
 pub mod Seen
-pub mod Wrote
+pub mod Kept

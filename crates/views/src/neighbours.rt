@@ -11,6 +11,7 @@ use looks::tests::sweep_between;
 ghost use mathlib.Core.Bool.{false};
 ghost use Prim.Native.Nat.{_+_, _≤_, _<_};
 ghost use lib.ListN.{length};
+ghost use Rattle.answers.specs.Asking.{Front};
 ghost use Rattle.model.specs.Answers.{neighbours};
 ghost use Rattle.model.specs.Cell.{key};
 ghost use Rattle.model.specs.Good.{Inside};
@@ -19,12 +20,12 @@ ghost use Rattle.model.specs.Maps.{AscL};
 ghost use Rattle.model.specs.Refusal.{short};
 ghost use Rattle.table.specs.Tables.{All};
 ghost use Rattle.views.specs.Seen.{Beside};
-ghost use Rattle.views.specs.Wrote.{Wrote, steps};
+ghost use Rattle.views.specs.Kept.{steps};
 
 // Those of the eight cells around k to whose centre the sweep is free, in the order of `secondary_cardinal_directions`.
 fn write_steps(size: f64, radius: f64, cells: &[u64], k: u64, out: &mut [u64]) -> usize
     requires { ⌜ (4294967297 ≤ k) × (k < 18446744069414584319) × (8 ≤ length (now out)) ⌝ }
-    ensures { λ r. ⌜ (AscL 0 (now (cells .entry)) → All (Inside maxCoordinate) (now (cells .entry)) → Wrote (steps size radius (now (cells .entry)) k) (now (out .entry)) (now (out .exit)) r) ⌝ }
+    ensures { λ r. ⌜ (AscL 0 (now (cells .entry)) → All (Inside maxCoordinate) (now (cells .entry)) → Front (steps size radius (now (cells .entry)) k) r (now (out .entry)) (now (out .exit))) ⌝ }
 {
     let west = k - 4294967296;
     let east = k + 4294967296;

@@ -15,6 +15,7 @@ ghost use mathlib.Core.Bool.{false, _&&_};
 ghost use mathlib.Core.Option.{Option};
 ghost use Prim.Native.Nat.{ℕ, _+_, _≤_};
 ghost use lib.ListN.{length};
+ghost use Rattle.answers.specs.Asking.{Front};
 ghost use Rattle.held.specs.Layers.{blocksOf, statusesOf};
 ghost use Rattle.model.specs.Answers.{free};
 ghost use Rattle.model.specs.Cell.{key};
@@ -28,12 +29,12 @@ ghost use Rattle.model.specs.Refusal.{short};
 ghost use Rattle.held.specs.Codes.{AllNamed, Named, blockCode, codes};
 ghost use Rattle.table.specs.Tables.{All};
 ghost use Rattle.views.specs.Seen.{InSight};
-ghost use Rattle.views.specs.Wrote.{Wrote, marked, seen};
+ghost use Rattle.views.specs.Kept.{marked, seen};
 
 // From a point, whose pairs are `row`: those of its pairs that nothing blocks, without looking at what blocks the points.
 fn write_paired(points: &[u64], row: &[u64], out: &mut [u64]) -> usize
     requires { ⌜ (length (now points) ≤ length (now row)) × (length (now points) ≤ length (now out)) ⌝ }
-    ensures { λ r. ⌜ Wrote (marked (now (points .entry)) (now (row .entry))) (now (out .entry)) (now (out .exit)) r ⌝ }
+    ensures { λ r. ⌜ Front (marked (now (points .entry)) (now (row .entry))) r (now (out .entry)) (now (out .exit)) ⌝ }
 {
     let mut n = 0;
     let mut i = 0;
@@ -74,7 +75,7 @@ fn write_seen(
 ) -> usize
     requires { ⌜ (length (now points) ≤ length (now statuses)) × (length (now points) ≤ length (now blockers)) × (length (now points) ≤ length (now out)) ⌝ }
     ensures { λ r. ⌜ ((ps : Points) → AscL 0 (now (cells .entry)) → All (Inside maxCoordinate) (now (cells .entry)) → now (points .entry) ≡ keys ps → now (statuses .entry) ≡ statusesOf ps → now (blockers .entry) ≡ codes (blocksOf ps) → AllNamed (blocksOf ps)
-        → Wrote (seen size radius (now (cells .entry)) k ps) (now (out .entry)) (now (out .exit)) r) ⌝ }
+        → Front (seen size radius (now (cells .entry)) k ps) r (now (out .entry)) (now (out .exit))) ⌝ }
 {
     let mut n = 0;
     let mut i = 0;

@@ -26,7 +26,9 @@ use Rattle.table.specs.Tables.{rank}
 use Rattle.table.proofs.ListedLaws.{keys-length}
 use Rattle.held.specs.Layers.{edgeAt}
 use Rattle.visibility.specs.Layers.{stoodOf}
-use Rattle.held.proofs.PlaceLaws.{place-back, place-has, place-lt, place-some, rank-at, rank-inside}
+use Rattle.held.proofs.PlaceLaws.{place-back, place-some, rank-at, rank-inside}
+use Rattle.model.proofs.MapLaws.{has-at}
+use Rattle.table.proofs.AllLaws.{ascL-less}
 use Rattle.visibility.proofs.StoodLaws.{after-has, left, left-old, left-want, stays-has, stood-length}
 
 -- the point at a place, with what is kept of it
@@ -124,8 +126,8 @@ module _ {t : Tests} {C : List ℕ} {ch : Batch} {ms : List Mark} {l l′ : Laye
   found-is : (i j : ℕ) → i < j → j < n → found i j ≡ edge (key i) (key j) (l′ .edges)
   found-is i j h b =
       (λ z. pairBetween t C ch (edgeAt l) (first z .0) (first z .1) (second z .0) (second z .1))
-      ∙ between-is (key i) (key j) (place-lt 0 (keys (l′ .points)) i j (asc-keys 0 (l′ .points) (cl .good .pointOrder)) h (inside j b)) (place-has (keys (l′ .points)) i (inside i (omega arith)))
-      (place-has (keys (l′ .points)) j (inside j b))
+      ∙ between-is (key i) (key j) (ascL-less 0 (keys (l′ .points)) i j (asc-keys 0 (l′ .points) (cl .good .pointOrder)) h (inside j b)) (has-at (keys (l′ .points)) i (inside i (omega arith)))
+      (has-at (keys (l′ .points)) j (inside j b))
     where
       inside : (k : ℕ) → k < n → k < length (keys (l′ .points))
       inside k u = rw (keys-length (l′ .points)) u

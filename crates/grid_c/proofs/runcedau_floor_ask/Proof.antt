@@ -4,9 +4,10 @@ use mathlib.Core.Path.{sym, ap, _∙_}
 use lib.ListN.{length}
 use lib.Seq.{length-take-le}
 use borrow.Author.Needs.{needs}
-use Rattle.model.specs.Shape.{Question, ask}
+use Rattle.model.specs.Shape.{ask}
 use Rattle.questions.specs.Ask.{refuseAsk}
 use Rattle.question.specs.Question.{asked}
+use Rattle.question.specs.declared.search.Question.{Question}
 use Rattle.questions.proofs.AskLaws.{ask-fits}
 use Rattle.grid_c.specs.Told.{told}
 use Rattle.grid_c.proofs.ToldLaws.{told-found, told-refused}
@@ -28,7 +29,7 @@ returns c =
     let m = j .before in
     let a = m .before .before .args in
     λ C h. told-refused (a .size) (a .cells .now) (a .count) (asked (m .question-of .result)) C h (j .judge .result) (c .if1 .taken) (j .judge .ensures)
-    ∙ ap (λ (q : Question). told (refuseAsk (length (a .cells .now)) (a .size) (a .count) q) (ask (a .size) C q)) (m .question-of .ensures)
+    ∙ ap (λ (q : Question). told (refuseAsk (length (a .cells .now)) (a .size) (a .count) (asked q)) (ask (a .size) C (asked q))) (m .question-of .ensures)
 
 slice-aggregate-search : tie.Need-slice-aggregate-search
 slice-aggregate-search c =
@@ -48,7 +49,7 @@ returns-2 c =
     let m = j .before in
     let a = m .before .before .args in
     λ C h. told-found (a .size) (a .cells .now) (a .count) (asked (m .question-of .result)) C h (c .search .result) (sym (e .if1 .left) ∙ j .judge .ensures) (c .search .ensures)
-    ∙ ap (λ (q : Question). told (refuseAsk (length (a .cells .now)) (a .size) (a .count) q) (ask (a .size) C q)) (m .question-of .ensures)
+    ∙ ap (λ (q : Question). told (refuseAsk (length (a .cells .now)) (a .size) (a .count) (asked q)) (ask (a .size) C (asked q))) (m .question-of .ensures)
 
 pub runcedau-floor-ask-spec : {M : Type 1} → statement M
 runcedau-floor-ask-spec =

@@ -15,7 +15,7 @@ abbrev μ-loop : tie.MeasureT-loop
 
 -- what is kept next has a place
 small : (t : tie.In-loop Inv-loop μ-loop) → let l = t .before .loop in (l .n < 8) × (l .n < length (l .out))
-small t = let v = t .before .loop .inv in (omega (arith, v .up, t .loop-test .taken), omega (arith, v .up, v .few, v .room, v .long, t .loop-test .taken))
+small t = let v = t .before .loop .inv in (omega (arith, v .up, t .loop-test .taken), omega (arith, v .up, v .few, v .room, v .grown .same, t .loop-test .taken))
 
 sub-west : tie.Need-sub-west Inv-loop μ-loop
 sub-west c = let p = c .before .before .pre in omega (arith, p .0, p .1)
@@ -90,7 +90,7 @@ loop-again c =
     (c .if1 .came)
 
 same-length : tie.Need-same-length Inv-loop μ-loop
-same-length c = c .before .loop .inv .long
+same-length c = c .before .loop .inv .grown .same
 
 returns : tie.Need-returns Inv-loop μ-loop
 returns c =

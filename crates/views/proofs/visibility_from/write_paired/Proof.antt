@@ -25,7 +25,7 @@ low t =
     let v = t .before .loop .inv in
     let g = s .good .0 .1 in
     let more = t .loop-test .taken in
-    (omega (arith, g, more), omega (arith, s .pre .0, more), omega (arith, g, v .up, more), omega (arith, v .up, v .room, v .long, more))
+    (omega (arith, g, more), omega (arith, s .pre .0, more), omega (arith, g, v .up, more), omega (arith, v .up, v .room, v .grown .same, more))
 
 mul-if1 : tie.Need-mul-if1 Inv-loop μ-loop
 mul-if1 c = omega (arith, low c .0)
@@ -67,7 +67,7 @@ loop-again c =
     (c .if1 .came)
 
 same-length : tie.Need-same-length Inv-loop μ-loop
-same-length c = c .before .loop .inv .long
+same-length c = c .before .loop .inv .grown .same
 
 returns : tie.Need-returns Inv-loop μ-loop
 returns c =

@@ -32,7 +32,7 @@ low t =
     let v = t .before .loop .inv in
     let g = start t .good .1 .1 .1 .0 .1 in
     let more = t .loop-test .taken in
-    (omega (arith, g, more), omega (arith, g, v .up, more), omega (arith, v .up, v .room, v .long, more))
+    (omega (arith, g, more), omega (arith, g, v .up, more), omega (arith, v .up, v .room, v .grown .same, more))
 
 mul-is-seen : tie.Need-mul-is-seen Inv-loop μ-loop
 mul-is-seen c = omega (arith, low c .0)
@@ -87,7 +87,7 @@ loop-again c =
     (c .if1 .came)
 
 same-length : tie.Need-same-length Inv-loop μ-loop
-same-length c = c .before .loop .inv .long
+same-length c = c .before .loop .inv .grown .same
 
 returns : tie.Need-returns Inv-loop μ-loop
 returns c =

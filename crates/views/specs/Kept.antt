@@ -1,22 +1,15 @@
--- Which cells the loops of crate `views` keep, and where they write them: `steps` is the model's `neighbours` where the square is free, `marked` its `fromPoint` and `seen` its `fromElsewhere` (occupancy/mod.rs, `neighbors`, `calculate_visibility`). Definitions only.
+-- Which cells the loops of crate `views` keep: `steps` is the model's `neighbours` where the square is free, `marked` its `fromPoint` and `seen` its `fromElsewhere` (occupancy/mod.rs, `neighbors`, `calculate_visibility`). Definitions only.
 use Prim.Native.Nat.{ℕ}
-use mathlib.Core.Path.{_≡_}
 use mathlib.Core.Bool.{cond, _&&_}
-use mathlib.Core.List.{List, [], _∷_, _++_}
+use mathlib.Core.List.{List, [], _∷_}
 use lib.Dec.{eqb}
 use lib.Ieee.{Float}
-use lib.ListN.{drop, length}
 use Rattle.model.specs.Answers.{free}
 use Rattle.model.specs.Cell.{eight}
 use Rattle.model.specs.Corner.{sees}
 use Rattle.model.specs.Layer.{Points}
 use Rattle.model.specs.Map.{tests}
 use Rattle.model.specs.Maps.{keys, sift}
-
--- the table a became a′: the r entries of l stand at its front, and what follows is untouched
-pub record Wrote (l a a′ : List ℕ) (r : ℕ) : Type 0 where
-  pub count : r ≡ length l
-  pub cells : a′ ≡ l ++ drop r a
 
 -- the cells around k to which the sweep is free
 abbrev pub steps : Float → Float → List ℕ → ℕ → List ℕ

@@ -1,14 +1,12 @@
--- What a walk has listed, and what is still to come; and lists that grow at the front of a lent one. Assumes nothing.
+-- A list that grows at the front of a lent one: what a walk has listed, and what is still to come. Assumes nothing.
 use Prim.Native.Nat.{ℕ, suc, _+_, _-_, _<_}
 use native.Mathlib.Numerals.{add-one}
 use native.Mathlib.Omega.{arith}
 use mathlib.Core.Path.{_≡_, refl, sym, ap, _∙_}
-use mathlib.Core.Bool.{Bool, true, false, cond}
 use mathlib.Core.List.{List, [], _∷_, _++_, append-assoc, append-nil}
 use lib.ListN.{drop, getD, length, length-append, length-drop, length-set, set}
 use lib.Seq.{append-snoc, drop-cons, set-append-seam}
-use Rattle.model.specs.Maps.{sift}
-use Rattle.edges.specs.Walks.{Front}
+use Rattle.answers.specs.Asking.{Front}
 
 -- ---- one more is written behind those at the front
 front-put : (v t t′ : List ℕ) (n x : ℕ) → n < length t′ → Front v n t t′ → Front (v ++ (x ∷ [])) (n + 1) t (set t′ n x)
@@ -62,26 +60,3 @@ module _ {X A : Type 0} (col : List A → List ℕ) (H : X → Type 0) (whole : 
   growing-done rest n t′ g x h z v o f =
       let s = g .told x h v o f in
       rw (s .1 ∙ ap (λ (r : List A). s .0 ++ r) z ∙ append-nil (s .0)) (s .2)
-
-module _ {A : Type 0} where
-  -- ---- lists sifted by a test
-  pub sift-append : (f : A → Bool) (l m : List A) → sift f (l ++ m) ≡ sift f l ++ sift f m
-  unfolding sift
-  sift-append f [] m = refl
-  sift-append f (x ∷ l) m = go (f x) (sift-append f l m)
-    where
-      go : (b : Bool) → sift f (l ++ m) ≡ sift f l ++ sift f m → cond b (x ∷ sift f (l ++ m)) (sift f (l ++ m)) ≡ cond b (x ∷ sift f l) (sift f l) ++ sift f m
-      go true ih = ap (λ (s : List A). x ∷ s) ih
-      go false ih = ih
-
-  pub sift-one : (f : A → Bool) (x : A) → f x ≡ true → sift f (x ∷ []) ≡ x ∷ []
-  unfolding sift
-  sift-one f x e = rw e refl
-
-  pub sift-out : (f : A → Bool) (x : A) → f x ≡ false → sift f (x ∷ []) ≡ []
-  unfolding sift
-  sift-out f x e = rw e refl
-
-  pub sift-nil : (f : A → Bool) → sift f [] ≡ []
-  unfolding sift
-  sift-nil f = refl

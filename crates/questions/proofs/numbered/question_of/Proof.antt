@@ -1,26 +1,26 @@
--- `question_of` goes by the shape's number. Assumes nothing.
+-- `numbered::question_of` goes by the shape's number. Assumes nothing.
 use mathlib.Core.Path.{refl}
 use borrow.Author.Tests.{eq-eqb, ne-eqb}
-use Rattle.grid_c.specs.Told.{question}
-use Rattle.grid_c.proofs.question_of.Statement.{statement}
-use Rattle.grid_c.proofs.question_of.Tie as tie
+use Rattle.questions.specs.Numbered.{questionOf}
+use Rattle.questions.proofs.numbered.question_of.Statement.{statement}
+use Rattle.questions.proofs.numbered.question_of.Tie as tie
 
 returns : tie.Need-returns
-unfolding question
+unfolding questionOf
 returns c = let n = c .before .args .shape in rw (eq-eqb n 1 (c .if1 .taken)) refl
 
 returns-2 : tie.Need-returns-2
-unfolding question
+unfolding questionOf
 returns-2 c = let n = c .before .before .args .shape in rw (ne-eqb n 1 (c .before .if1 .left), eq-eqb n 2 (c .if2 .taken)) refl
 
 returns-3 : tie.Need-returns-3
-unfolding question
+unfolding questionOf
 returns-3 c =
     let n = c .before .before .before .args .shape in
     rw (ne-eqb n 1 (c .before .before .if1 .left), ne-eqb n 2 (c .before .if2 .left), eq-eqb n 3 (c .if3 .taken)) refl
 
 returns-4 : tie.Need-returns-4
-unfolding question
+unfolding questionOf
 returns-4 c =
     let n = c .before .before .before .args .shape in
     rw (ne-eqb n 1 (c .before .before .if1 .left), ne-eqb n 2 (c .before .if2 .left), ne-eqb n 3 (c .if3 .left)) refl
