@@ -33,7 +33,7 @@ use Rattle.sight.proofs.PointLaws.{codes-at, start-named}
 use Rattle.held.proofs.LayerLaws.{codes-length}
 
 -- ---- the points as they are lent
-abbrev nobody : ℕ × Standing
+abbrev pub nobody : ℕ × Standing
 nobody = (0, record { bits = zero4; old = 0; first = 0 })
 
 pub words-length : (S : Stood) → length (wordsOf S) ≡ length S
@@ -72,7 +72,7 @@ never-short n s h (inr (inl l)) = let f = seeing-fits s in omega arith
 never-short n s h (inr (inr l)) = let f = seeing-fits s in omega arith
 
 -- ---- what is wanted
-blocks-length : (t : Tests) (C : List ℕ) (ch : Batch) (B : List (Option ℕ)) (S : Stood) → length (pointBlocks t C ch B S) ≡ length S
+pub blocks-length : (t : Tests) (C : List ℕ) (ch : Batch) (B : List (Option ℕ)) (S : Stood) → length (pointBlocks t C ch B S) ≡ length S
 unfolding pointBlocks
 blocks-length t C ch B [] = refl
 blocks-length t C ch B (e ∷ S) = ap suc (blocks-length t C ch B S)

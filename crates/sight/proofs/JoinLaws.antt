@@ -1,22 +1,19 @@
 -- The pairs of the listed points, row by row. Assumes nothing.
-use Prim.Native.Nat.{ℕ, zero, suc, _+_, _*_, _≤_, _<_, zero-le}
-use native.Mathlib.Nat.{le-of-suc-le-suc, not-suc-le-zero}
+use Prim.Native.Nat.{ℕ, _+_, _*_, _≤_, _<_, zero-le}
 use native.Mathlib.Omega.{arith}
 use mathlib.Core.Path.{_≡_, refl, sym, ap, _∙_}
 use mathlib.Core.Bool.{Bool, true, false, _&&_}
-use mathlib.Core.List.{List, [], _∷_}
+use mathlib.Core.List.{List}
 use mathlib.Core.Option.{Option, none}
 use borrow.Author.Tests.{lt-ltb, le-ltb, ltb-true}
 use lib.Dec.{ltb}
 use lib.Ieee.{Float}
 use lib.ListN.{length, getD, set, length-set}
 use Rattle.table.proofs.ListedLaws.{keys-at}
-use Rattle.batches.proofs.WriteLaws.{listed-lengths}
 use Rattle.limits.specs.Batches.{flags}
 use Rattle.marks.specs.Standing.{Small, Standing, mood, word}
 use Rattle.marks.specs.declared.mood.Mood.{Mood}
 use Rattle.model.specs.Batch.{Batch}
-use Rattle.model.specs.Corner.{zero4}
 use Rattle.model.specs.Good.{Inside}
 use Rattle.model.specs.Layer.{Tests}
 use Rattle.model.specs.Limits.{maxCoordinate, maxPoints}
@@ -27,30 +24,13 @@ use Rattle.segment.specs.declared.near.Proximity.{Proximity}
 use Rattle.table.specs.Listed.{values}
 use Rattle.table.specs.Tables.{All}
 use Rattle.table.proofs.ListedLaws.{keys-length}
-use Rattle.sight.specs.Blocked.{Fitting, Seeing, Stood, wordsOf}
+use Rattle.sight.specs.Blocked.{Seeing, Stood}
 use Rattle.held.specs.Codes.{pairCode}
 use Rattle.sight.specs.Paired.{Filled, pairAt, pairBetween, pointAt}
 use Rattle.held.specs.Pairs.{Pairs, PairsNamed}
 use Rattle.sight.specs.Rows.{forePlace, upTo}
+use Rattle.sight.proofs.BlockLaws.{fitting-at, nobody, seeing-fits, words-at}
 use Rattle.sight.proofs.TableLaws.{filled-both, filled-end, filled-on, filled-over, filled-start}
-
--- ---- the points, by their places
-abbrev nothing : Standing
-nothing = record { bits = zero4; old = 0; first = 0 }
-
-words-length : (S : Stood) → length (wordsOf S) ≡ length S
-words-length [] = refl
-words-length (e ∷ S) = ap suc (words-length S)
-
-words-at : (S : Stood) (i : ℕ) → i < length S → getD (wordsOf S) i 0 ≡ word (pointAt S i .1)
-words-at [] i h = absurd (not-suc-le-zero h)
-words-at (e ∷ S) zero h = refl
-words-at (e ∷ S) (suc i) h = words-at S i (le-of-suc-le-suc h)
-
-fitting-at : (S : Stood) (i : ℕ) → Fitting S → i < length S → Small (pointAt S i .1) × (pointAt S i .1 .old ≤ maxPoints)
-fitting-at [] i f h = absurd (not-suc-le-zero h)
-fitting-at (e ∷ S) zero f h = (f .0, f .1)
-fitting-at (e ∷ S) (suc i) f h = fitting-at S i (f .2) (le-of-suc-le-suc h)
 
 -- ---- the pair at two places
 within : (i j n : ℕ) → (i < j → n ≤ j) → (ltb i j && ltb j n) ≡ false
@@ -110,12 +90,12 @@ module _ (size radius : Float) (reach : Proximity) (C turned full points moods o
       let hj : j < length S = omega arith in
       let x = pointAt S i in
       let y = pointAt S j in
-      let fx = fitting-at S i (s .fitting) hi in
-      let fy = fitting-at S j (s .fitting) hj in
-      let a : was ≡ mood (x .1) = f (x .1) (fx .0) (ap (λ (m : List ℕ). getD m i 0) (s .moodsAre) ∙ words-at S i hi) in
-      let b : other ≡ mood (y .1) = g (y .1) (fy .0) (ap (λ (m : List ℕ). getD m j 0) (s .moodsAre) ∙ words-at S j hj) in
-      let p : getD points i 0 ≡ x .0 = ap (λ (m : List ℕ). getD m i 0) (s .pointsAre) ∙ keys-at S i nothing in
-      let q : getD points j 0 ≡ y .0 = ap (λ (m : List ℕ). getD m j 0) (s .pointsAre) ∙ keys-at S j nothing in
+      let fx = fitting-at S i nobody (s .fitting) hi in
+      let fy = fitting-at S j nobody (s .fitting) hj in
+      let a : was ≡ mood (x .1) = f (x .1) (fx .0) (ap (λ (m : List ℕ). getD m i 0) (s .moodsAre) ∙ words-at S i nobody hi) in
+      let b : other ≡ mood (y .1) = g (y .1) (fy .0) (ap (λ (m : List ℕ). getD m j 0) (s .moodsAre) ∙ words-at S j nobody hj) in
+      let p : getD points i 0 ≡ x .0 = ap (λ (m : List ℕ). getD m i 0) (s .pointsAre) ∙ keys-at S i (nobody .1) in
+      let q : getD points j 0 ≡ y .0 = ap (λ (m : List ℕ). getD m j 0) (s .pointsAre) ∙ keys-at S j (nobody .1) in
       t ch P (x .1) (y .1) (s .order) (s .inside) (s .changes) (s .turnedAre) (s .fullAre) (w .near) (w .pairs) (w .named) a b (fx .1) (fy .1)
       ∙ ap (λ (k : ℕ). pairCode (pairBetween (tests size radius) C ch P k (x .1) (getD points j 0) (y .1))) p
       ∙ ap (λ (k : ℕ). pairCode (pairBetween (tests size radius) C ch P (x .0) (x .1) k (y .1))) q
@@ -195,6 +175,4 @@ module _ (size radius : Float) (reach : Proximity) (C turned full points moods o
 
 -- what is lent fits together
 pub seeing-lengths : (C : List ℕ) (ch : Batch) (S : Stood) (turned full points moods : List ℕ) → Seeing C ch S turned full points moods → (length turned ≡ length full) × (length points ≡ length moods) × (length points ≡ length S)
-seeing-lengths C ch S turned full points moods s =
-    let n : length points ≡ length S = ap length (s .pointsAre) ∙ keys-length S in
-    (listed-lengths turned full ch (s .turnedAre) (s .fullAre), n ∙ sym (ap length (s .moodsAre) ∙ words-length S), n)
+seeing-lengths C ch S turned full points moods s = let f = seeing-fits s in (f .changes, f .count ∙ sym (f .words), f .count)

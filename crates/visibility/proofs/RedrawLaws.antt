@@ -16,7 +16,7 @@ use Rattle.model.specs.Limits.{maxPoints}
 use Rattle.model.specs.Maps.{keys}
 use Rattle.sight.specs.Blocked.{Fitting, Seeing, Stood, pointBlocks, wordsOf}
 use Rattle.held.specs.Codes.{codes}
-use Rattle.sight.proofs.BlockLaws.{fitting-at, words-at, words-length}
+use Rattle.sight.proofs.BlockLaws.{blocks-length, fitting-at, words-at, words-length}
 use Rattle.held.proofs.LayerLaws.{codes-length}
 use Rattle.copy.specs.Copied.{Copied}
 use Rattle.table.specs.Tables.{pad}
@@ -68,12 +68,6 @@ module _ (moods out out′ : List ℕ) (i : ℕ) (room : length moods ≤ length
       let l : length moods ≡ length S = ap length e ∙ words-length S in
       let j : i ≡ length S = omega (arith, w .inside) in
       w .is S f e ∙ ap (mix (numbersOf S) out) j ∙ mix-done (numbersOf S) out (length S) (numbers-length S)
-
--- ---- the blockers
-blocks-length : (t : Tests) (C : List ℕ) (ch : Batch) (B : List (Option ℕ)) (S : Stood) → length (pointBlocks t C ch B S) ≡ length S
-unfolding pointBlocks
-blocks-length t C ch B [] = refl
-blocks-length t C ch B (e ∷ S) = ap suc (blocks-length t C ch B S)
 
 -- ---- the three tables of the points
 module _ (t : Tests) (C : List ℕ) (ch : Batch) (S : Stood) (B : List (Option ℕ)) (turned full ks moods points statuses blockers : List ℕ) (n count : ℕ)
