@@ -1,4 +1,4 @@
--- A question and its answer as numbers. Definitions only.
+-- A question and its answer as numbers, for C: the refusal, or the cell's key, or 0 for none (document 01). Definitions only.
 use Prim.Native.Nat.{ℕ, zero, suc}
 use mathlib.Core.Option.{Option, none, some}
 use lib.Ieee.{Float}

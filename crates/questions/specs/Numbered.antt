@@ -1,4 +1,4 @@
--- A question by its shape's number. Definitions only.
+-- A question by its shape's number, as the border hands it over; the Rust has a function for each shape. Definitions only.
 use Prim.Native.Nat.{ℕ}
 use mathlib.Core.Bool.{cond}
 use lib.Dec.{eqb}
