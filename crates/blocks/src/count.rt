@@ -5,10 +5,8 @@ use table::place::stands_at;
 ghost use mathlib.Core.Path.{_≡_};
 ghost use Prim.Native.Nat.{_+_, _<_, _≤_};
 ghost use lib.ListN.{getD, length};
-ghost use Rattle.model.specs.Blocks.{blockCount};
 ghost use Rattle.model.specs.Cell.{W};
-ghost use Rattle.model.specs.Limits.{maxCells};
-ghost use Rattle.model.specs.Maps.{AscL};
+ghost use Rattle.blocks.specs.Counted.{Counted};
 ghost use Rattle.blocks.specs.Forest.{Down, Sought};
 ghost use Rattle.blocks.specs.Grown.{Met, Planted};
 
@@ -61,7 +59,7 @@ fn plant(cells: &[u64], parents: &mut [usize], i: usize) -> usize
 
 // The blocks of ascending cells. Of more than 1,024 none are counted.
 pub fn count_blocks(cells: &[u64]) -> usize
-    ensures { λ r. ⌜ (maxCells < length (now (cells .entry)) → r ≡ 0) × (length (now (cells .entry)) ≤ maxCells → AscL 0 (now (cells .entry)) → r ≡ blockCount (now (cells .entry))) ⌝ }
+    ensures { λ r. ⌜ Counted (now (cells .entry)) r ⌝ }
 {
     let n = cells.len();
     if 1024 < n {
