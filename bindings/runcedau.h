@@ -79,9 +79,4 @@ int64_t runcedau_cut_to_i64(double x);
 uint64_t runcedau_column_of(double x);
 uint64_t runcedau_column_up(double x);
 
-/* ---- a floor: cells alone, of a cell size, with neither points nor pairs. The answer is a key, 0 for none, or the refusal's number. `counts` gets how many
- * changes were confirmed, how many corners altered, and how many cells there are then. */
-uint64_t runcedau_floor_ask(uint8_t shape, double size, double x0, double y0, double x1, double y1, double extent, size_t count, const uint64_t *cells, size_t cells_len);
-uint8_t runcedau_floor_change_cells(double size, size_t count, uint64_t *cells, size_t cells_len, const int64_t *batch, size_t batch_len, uint64_t *confirmed, size_t confirmed_len, uint8_t *full, size_t full_len, uint64_t *corners, size_t corners_len, uint8_t *statuses, size_t statuses_len, uint64_t *counts, size_t counts_len);
-
 #endif

@@ -123,6 +123,4 @@ library! {
     fn runcedau_column_up(x: plain f64) -> u64;
     fn runcedau_min(a: plain f64, b: plain f64) -> f64;
     fn runcedau_max(a: plain f64, b: plain f64) -> f64;
-    fn runcedau_floor_ask(shape: plain u8, size: plain f64, x0: plain f64, y0: plain f64, x1: plain f64, y1: plain f64, extent: plain f64, count: plain usize, cells: read u64) -> u64;
-    fn runcedau_floor_change_cells(size: plain f64, count: plain usize, cells: write u64, batch: read i64, confirmed: write u64, full: write u8, corners: write u64, statuses: write u8, counts: write u64) -> u8;
 }
