@@ -1,4 +1,5 @@
-//! The static library's functions, as runcedau.h has them, over slices: for those who own their tables.
+//! The static library's functions, as runcedau.h has them, over slices: for those who own their tables. A struct that a refused call gave is no map, and
+//! one from before an accepted call is none any more (runcedau.h says what comes of either); [`crate::Map`] sees to both.
 use crate::geometry::{Crossings, Point, Segment};
 use crate::Cell;
 
