@@ -1,4 +1,4 @@
-//! Links the archive that `bench/run` makes of crate `grid_c`: a floor's calls stand outside of the border.
+//! Links the archive that `bench/build` makes of crate `grid_c`: a floor's calls stand outside of the border.
 fn main() {
     let folder = concat!(env!("CARGO_MANIFEST_DIR"), "/../target/staticlib");
     println!("cargo:rustc-link-search=native={folder}");

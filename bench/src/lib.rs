@@ -1,4 +1,4 @@
-//! The proved functions, as the static library exports them (`bindings/build`), and those of a floor, which has an archive of its own (`bench/run`).
+//! The proved functions, as the static library exports them (`bindings/build`), and those of a floor, which has an archive of its own (`bench/build`).
 use oracle::question::{Entry, Floor, Question};
 use oracle::stand_ins::Point;
 
