@@ -1,4 +1,4 @@
-//! The proved functions, as the static library exports them (`bindings/build`).
+//! The proved functions, as the static library exports them (`bindings/build`), and those of a floor, which has an archive of its own (`bench/build`).
 use oracle::question::{Entry, Floor, Question};
 use oracle::stand_ins::Point;
 
@@ -11,13 +11,49 @@ pub mod measure;
 pub mod segments;
 pub mod views;
 
+use runcedau::ffi::runcedau_near_cells;
 pub use runcedau::ffi::{
     runcedau_abs, runcedau_ceil_to_i64, runcedau_column_of, runcedau_column_up,
     runcedau_cut_to_i64, runcedau_distance, runcedau_floor_to_i64, runcedau_max, runcedau_min,
     runcedau_root, runcedau_root_threshold,
 };
-use runcedau::ffi::{runcedau_floor_ask, runcedau_floor_change_cells, runcedau_near_cells};
 use runcedau::Segment;
+
+// Crate `grid_c`: cells alone, of a cell size, with neither points nor pairs. A slice is a pointer and a length.
+unsafe extern "C" {
+    /// The key of the cell found, 0 for none, or the refusal's number.
+    fn runcedau_floor_ask(
+        shape: u8,
+        size: f64,
+        x0: f64,
+        y0: f64,
+        x1: f64,
+        y1: f64,
+        extent: f64,
+        count: usize,
+        cells: *const u64,
+        cells_len: usize,
+    ) -> u64;
+    /// The refusal's number; `counts` gets how many changes were confirmed, how many corners altered, and how many cells there are then.
+    fn runcedau_floor_change_cells(
+        size: f64,
+        count: usize,
+        cells: *mut u64,
+        cells_len: usize,
+        batch: *const i64,
+        batch_len: usize,
+        confirmed: *mut u64,
+        confirmed_len: usize,
+        full: *mut u8,
+        full_len: usize,
+        corners: *mut u64,
+        corners_len: usize,
+        statuses: *mut u8,
+        statuses_len: usize,
+        counts: *mut u64,
+        counts_len: usize,
+    ) -> u8;
+}
 
 pub fn segment(ends: &[f64; 4]) -> Segment {
     let [x0, y0, x1, y1] = *ends;
@@ -94,17 +130,27 @@ impl Floor for Proved {
     }
 
     fn change(&mut self, batch: &Vec<i64>) -> u8 {
-        let refusal = runcedau_floor_change_cells(
-            self.size,
-            self.count,
-            &mut self.cells,
-            batch,
-            &mut self.confirmed,
-            &mut self.full,
-            &mut self.corners,
-            &mut self.statuses,
-            &mut self.counts,
-        );
+        // SAFETY: every pointer is of a slice of the length behind it, and no two overlap; the function is proved to stay within them.
+        let refusal = unsafe {
+            runcedau_floor_change_cells(
+                self.size,
+                self.count,
+                self.cells.as_mut_ptr(),
+                self.cells.len(),
+                batch.as_ptr(),
+                batch.len(),
+                self.confirmed.as_mut_ptr(),
+                self.confirmed.len(),
+                self.full.as_mut_ptr(),
+                self.full.len(),
+                self.corners.as_mut_ptr(),
+                self.corners.len(),
+                self.statuses.as_mut_ptr(),
+                self.statuses.len(),
+                self.counts.as_mut_ptr(),
+                self.counts.len(),
+            )
+        };
         if refusal == 0 {
             self.count = self.counts[2] as usize;
         }
@@ -119,17 +165,13 @@ impl Floor for Proved {
             Question::Circle(p, radius) => (2, p, none, radius),
             Question::Sweep(p, q, width) => (3, p, q, width),
         };
-        runcedau_floor_ask(
-            shape,
-            self.size,
-            p.x,
-            p.y,
-            q.x,
-            q.y,
-            length,
-            self.count,
-            &self.cells,
-        )
+        let (cells, room) = (self.cells.as_ptr(), self.cells.len());
+        // SAFETY: the pointer is of a slice of that length; the function is proved to stay within it.
+        unsafe {
+            runcedau_floor_ask(
+                shape, self.size, p.x, p.y, q.x, q.y, length, self.count, cells, room,
+            )
+        }
     }
 
     fn found(&self, question: &Question) -> u64 {

@@ -1,4 +1,5 @@
-//! The static library's functions, as runcedau.h has them, over slices: for those who own their tables.
+//! The static library's functions, as runcedau.h has them, over slices: for those who own their tables. A struct that a refused call gave is no map, and
+//! one from before an accepted call is none any more (runcedau.h says what comes of either); [`crate::Map`] sees to both.
 use crate::geometry::{Crossings, Point, Segment};
 use crate::Cell;
 
@@ -123,6 +124,4 @@ library! {
     fn runcedau_column_up(x: plain f64) -> u64;
     fn runcedau_min(a: plain f64, b: plain f64) -> f64;
     fn runcedau_max(a: plain f64, b: plain f64) -> f64;
-    fn runcedau_floor_ask(shape: plain u8, size: plain f64, x0: plain f64, y0: plain f64, x1: plain f64, y1: plain f64, extent: plain f64, count: plain usize, cells: read u64) -> u64;
-    fn runcedau_floor_change_cells(size: plain f64, count: plain usize, cells: write u64, batch: read i64, confirmed: write u64, full: write u8, corners: write u64, statuses: write u8, counts: write u64) -> u8;
 }

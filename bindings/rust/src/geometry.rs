@@ -31,7 +31,7 @@ pub struct Crossings {
 
 impl Crossings {
     fn list(self) -> Vec<f64> {
-        [self.first, self.second][..(self.count as usize).min(2)].to_vec()
+        [self.first, self.second][..self.count as usize].to_vec()
     }
 }
 

@@ -85,6 +85,18 @@ struct Tables {
     pairs: [u64; PAIRS],
 }
 
+impl Tables {
+    fn zeros() -> Box<Self> {
+        Box::new(Tables {
+            cells: [0; CELLS],
+            points: [0; POINTS],
+            statuses: [0; POINTS],
+            blockers: [0; POINTS],
+            pairs: [0; PAIRS],
+        })
+    }
+}
+
 #[derive(Clone)]
 pub struct Map {
     map: ffi::Map,
@@ -95,13 +107,7 @@ pub struct Map {
 impl Map {
     /// An empty map.
     pub fn new(cell_size: f64, agent_radius: f64) -> Result<Self, Refusal> {
-        let mut tables = Box::new(Tables {
-            cells: [0; CELLS],
-            points: [0; POINTS],
-            statuses: [0; POINTS],
-            blockers: [0; POINTS],
-            pairs: [0; PAIRS],
-        });
+        let mut tables = Tables::zeros();
         let t = &mut *tables;
         let opened = ffi::runcedau_open(
             cell_size,
@@ -139,8 +145,7 @@ impl Map {
             &mut corners,
             &mut altered,
         );
-        Refusal::check(changed.refusal)?;
-        self.map = changed.map;
+        self.keep(changed.refusal, changed.map)?;
         let confirmed = cells_of(&confirmed[..changed.confirmed]).into_iter();
         let corners = cells_of(&corners[..changed.corners]).into_iter();
         Ok(Changes {
@@ -161,8 +166,13 @@ impl Map {
             &mut t.pairs,
             radius,
         );
-        Refusal::check(changed.refusal)?;
-        self.map = changed.map;
+        self.keep(changed.refusal, changed.map)
+    }
+
+    /// The struct that a call gave is the map where the call was accepted, and only there.
+    fn keep(&mut self, refusal: u8, map: ffi::Map) -> Result<(), Refusal> {
+        Refusal::check(refusal)?;
+        self.map = map;
         Ok(())
     }
 
@@ -175,34 +185,50 @@ impl Map {
     }
 }
 
-/// The shapes by their numbers at the border.
-const POINT: u8 = 0;
-const SQUARE: u8 = 1;
-const CIRCLE: u8 = 2;
-const SWEEP: u8 = 3;
+/// The shapes by their numbers at the border, which refuses any other.
+#[derive(Clone, Copy)]
+#[repr(u8)]
+enum Shape {
+    Point = 0,
+    Square = 1,
+    Circle = 2,
+    Sweep = 3,
+}
+
+/// Of what no map of this crate is refused, since calls gave it and there is room: better no answer than that of a refused call.
+fn sure(refusal: u8) {
+    assert_eq!(Refusal::check(refusal), Ok(()), "of a map's own tables");
+}
+
+fn count_of(listed: ffi::Count) -> usize {
+    sure(listed.refusal);
+    listed.count
+}
 
 /// What may be asked about cells. Each test answers the first occupied cell, by x, then y, that qualifies.
 impl Map {
     pub fn is_occupied(&self, cell: Cell) -> bool {
-        ffi::runcedau_is_occupied(self.map, &self.tables.cells, cell).yes
+        let told = ffi::runcedau_is_occupied(self.map, &self.tables.cells, cell);
+        sure(told.refusal);
+        told.yes
     }
 
-    fn ask(&self, shape: u8, p: Point, q: Point, extent: f64) -> Result<Option<Cell>, Refusal> {
-        let found = ffi::runcedau_ask(self.map, &self.tables.cells, shape, p, q, extent);
+    fn ask(&self, shape: Shape, p: Point, q: Point, extent: f64) -> Result<Option<Cell>, Refusal> {
+        let found = ffi::runcedau_ask(self.map, &self.tables.cells, shape as u8, p, q, extent);
         Refusal::check(found.refusal)?;
         Ok(found.some.then_some(found.cell))
     }
 
     pub fn is_point_occupied(&self, p: Point) -> Result<Option<Cell>, Refusal> {
-        self.ask(POINT, p, p, 0.0)
+        self.ask(Shape::Point, p, p, 0.0)
     }
 
     pub fn is_square_occupied(&self, p: Point, width: f64) -> Result<Option<Cell>, Refusal> {
-        self.ask(SQUARE, p, p, width)
+        self.ask(Shape::Square, p, p, width)
     }
 
     pub fn is_circle_occupied(&self, p: Point, radius: f64) -> Result<Option<Cell>, Refusal> {
-        self.ask(CIRCLE, p, p, radius)
+        self.ask(Shape::Circle, p, p, radius)
     }
 
     pub fn is_sweep_occupied(
@@ -211,13 +237,13 @@ impl Map {
         q: Point,
         width: f64,
     ) -> Result<Option<Cell>, Refusal> {
-        self.ask(SWEEP, p, q, width)
+        self.ask(Shape::Sweep, p, q, width)
     }
 
     pub fn occupied_cells(&self) -> Vec<Cell> {
         let mut out = [0; CELLS];
         let listed = ffi::runcedau_occupied_cells(self.map, &self.tables.cells, &mut out);
-        cells_of(&out[..listed.count])
+        cells_of(&out[..count_of(listed)])
     }
 
     /// The cells with a corner, and their statuses.
@@ -225,7 +251,7 @@ impl Map {
         let (mut out, mut statuses) = ([0; CELLS], [0; CELLS]);
         let listed =
             ffi::runcedau_corner_cells(self.map, &self.tables.cells, &mut out, &mut statuses);
-        cells_of(&out[..listed.count])
+        cells_of(&out[..count_of(listed)])
             .into_iter()
             .zip(statuses)
             .collect()
@@ -251,7 +277,7 @@ impl Map {
             status: bits[i],
             blocker: blocker_of(blocks[i]),
         };
-        (0..listed.count).map(point).collect()
+        (0..count_of(listed)).map(point).collect()
     }
 
     /// The points that nothing blocks.
@@ -263,7 +289,7 @@ impl Map {
             &self.tables.blockers,
             &mut out,
         );
-        cells_of(&out[..listed.count]).into_iter()
+        cells_of(&out[..count_of(listed)]).into_iter()
     }
 
     pub fn pairs(&self) -> Vec<Pair> {
@@ -282,7 +308,7 @@ impl Map {
             greater: Cell::of_key(greater[i]),
             blocker: blocker_of(blocks[i]),
         };
-        (0..listed.count).map(pair).collect()
+        (0..count_of(listed)).map(pair).collect()
     }
 
     /// The pairs that nothing blocks, nor either of their ends.
@@ -297,8 +323,9 @@ impl Map {
             &mut lesser,
             &mut greater,
         );
-        let ends = cells_of(&lesser[..listed.count]).into_iter();
-        ends.zip(cells_of(&greater[..listed.count]))
+        let count = count_of(listed);
+        let ends = cells_of(&lesser[..count]).into_iter();
+        ends.zip(cells_of(&greater[..count]))
     }
 
     /// The points in sight of a cell.
@@ -327,10 +354,43 @@ impl Map {
     }
 }
 
-/// What the program `listing` prints for the bytes of a map file.
+/// What the program `listing` prints for the bytes of a map file; of one that is refused, `refused N at F`.
 pub fn listing(map_file: &[u8]) -> Vec<u8> {
     let mut out = vec![0; 166_656];
     let listed = ffi::runcedau_list_file(map_file, &mut out);
-    out.truncate(listed.count);
+    out.truncate(count_of(listed));
     out
+}
+
+#[cfg(test)]
+mod tests {
+    use super::*;
+
+    /// Of tables that no call has written yet.
+    fn held(cells: usize) -> Map {
+        let map = ffi::Map {
+            cells,
+            ..ffi::Map::default()
+        };
+        Map {
+            map,
+            tables: Tables::zeros(),
+        }
+    }
+
+    #[test]
+    fn a_refused_call_leaves_the_map_whatever_its_number() {
+        for number in 1..=u8::MAX {
+            let mut map = held(3);
+            assert!(map.keep(number, ffi::Map::default()).is_err());
+            assert_eq!(map.map.cells, 3);
+        }
+    }
+
+    #[test]
+    fn an_accepted_call_gives_the_map() {
+        let mut map = held(3);
+        assert_eq!(map.keep(0, held(4).map), Ok(()));
+        assert_eq!(map.map.cells, 4);
+    }
 }

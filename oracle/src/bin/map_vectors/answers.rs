@@ -628,6 +628,19 @@ fn small_runs(list: &mut MapList) {
     }
 }
 
+/// The circle touches the cell's side, and then reaches over it.
+fn example_9(list: &mut MapList) {
+    list.open(256.0, 128.0);
+    list.batch(&[(0, 0, true)]);
+    let cell = Cell::new(0, 0);
+    for (radius, found) in [(128.0, None), (129.0, Some(cell))] {
+        let circle = Question::Circle(Point::new(-128.0, 128.0), radius);
+        let map = list.map.as_ref().expect("a map");
+        assert_eq!(map.ask(&circle), Ok(found));
+        ask(list, circle);
+    }
+}
+
 /// What each question or list must have.
 fn needed_of(letters: &[char], each: &[(&str, usize)]) -> Vec<(String, usize)> {
     letters
@@ -650,6 +663,7 @@ pub fn vectors() -> Vectors {
     tight_runs(&mut list);
     one_way_runs(&mut list);
     small_runs(&mut list);
+    example_9(&mut list);
     let mut needed = needed_of(&QUESTIONS, &OF_A_QUESTION);
     needed.extend(needed_of(&LISTS, &OF_A_LIST));
     needed.extend(needed_of(&['v', 'n'], &[("refused with 5", 10)]));
