@@ -23,25 +23,30 @@ use Rattle.model.specs.Answers.{changedCorners, freePoints, fromPoint, f
 use Rattle.model.specs.Blocks.{adjacent, touches, union, joinCell, blocksOf, blockCount}
 use Rattle.model.specs.MapFile.{bigEndian, entries, badFlag, takeSize, takeRadius, takeBatch, sized, oneField, readOn, readFile}
 use Rattle.model.specs.Listing.{text, digits, cellText, pointLines, pairLines, summary, refusedLine, listing}
-use Rattle.model.specs.Borders.{near, nearTest, bits, joins, borders, answers, counts, sixPoints, seen, hidden, seenAgain, bothEnds, updates, blockers, head, heads, gives, files, AllNamed}
-use Rattle.model.specs.Examples.{c, num, pt, at, after, setRadius, pointStatus, pointBlock, pairBlock, flat, cover, lies, twoCells, oneFreed, table, All, circle?, ten, tenAgain, others, workedFile, workedListing}
+use Rattle.model.specs.Borders.{near, nearTest, bits, joins, borders, answers, counts, sixPoints, filled, leaving, bothEnds, through, hiding, blocking, updates, head, heads, gives, files, AllNamed}
+use Rattle.model.specs.Examples.{c, num, pt, at, after, setRadius, pointStatus, pointBlock, pairBlock, flat, lies, twoCells, oneFreed, table, Each, circle?, ten, tenAgain, others, workedFile, workedListing}
 
 -- what is to be computed, said once: whoever unfolds this unfolds all of it
 unfoldable pub everything : Unit {0}
-unfolding near nearTest bits joins borders answers counts sixPoints seen hidden seenAgain bothEnds updates blockers head heads gives files fromPoint fromElsewhere freePoints visibleFrom neighbours table num pt at after pointStatus flat cover lies twoCells oneFreed add sub mul div lt le eq neg ofInt ofBits absF minF maxF rootF floorZ ceilZ centreF shiftF get put del mapV keys sift has insert cut find key within number sameBits corner statusOf quadrant sees cornersAmong cellsAfter confirmed met altered cornerChanges plus minus times over dot norm turned tiny bound root2 cellOf centre lowCorner verticalAt horizontalAt distance nearCorners between meets passesNear pointTest lowEnd highEnd inBox squareTest stripOf leftmost rightmost endsIn sidesAt search rowIn inColumn inStrip sweepTest line edge tie untie link hide erase marks raise lower mark markAll phase2 wanted connect phase3 edgeRun settleRow settleAll phase4 update toBatch shiftOf tests changed rebuilt next firstOf verdict short badSize badRadius unsorted outside refuseOpen judge refusal step run opened changedCorners others pointBlock pairBlock circle? ten tenAgain setRadius pointInside lineInside inCircle circleTest listing workedFile workedListing text digits cellText pointLines pairLines summary refusedLine bigEndian entries badFlag takeSize takeRadius takeBatch sized oneField readOn readFile adjacent touches union joinCell blocksOf blockCount corners points allPairs isOpen openPairs pairsFrom pairs refusals
+unfolding near nearTest bits joins borders answers counts sixPoints filled leaving bothEnds through hiding blocking updates head heads gives files fromPoint fromElsewhere freePoints visibleFrom neighbours num pt at after pointStatus flat lies twoCells oneFreed add sub mul div lt le eq neg ofInt ofBits absF minF maxF rootF floorZ ceilZ centreF shiftF get put del mapV keys sift has insert cut find key within number sameBits corner statusOf quadrant sees cornersAmong cellsAfter confirmed met altered cornerChanges plus minus times over dot norm turned tiny bound root2 cellOf centre lowCorner verticalAt horizontalAt distance nearCorners between meets passesNear pointTest lowEnd highEnd inBox squareTest stripOf leftmost rightmost endsIn sidesAt search rowIn inColumn inStrip sweepTest line edge tie untie link hide erase marks raise lower mark markAll phase2 wanted connect phase3 edgeRun settleRow settleAll phase4 update toBatch shiftOf tests changed rebuilt next firstOf verdict short badSize badRadius unsorted outside refuseOpen judge refusal step run opened changedCorners others pointBlock pairBlock circle? ten tenAgain setRadius pointInside lineInside inCircle circleTest listing workedFile workedListing text digits cellText pointLines pairLines summary refusedLine bigEndian entries badFlag takeSize takeRadius takeBatch sized oneField readOn readFile adjacent touches union joinCell blocksOf blockCount corners points allPairs isOpen openPairs pairsFrom pairs refusals
 everything = tt
 
 -- The examples marked P hold of the definitions, together.
-pub examples : All table
+pub examples : Each table
 unfolding everything
-examples = (tt, (tt, (tt, (tt, (tt, (tt, (tt, (tt, (tt, tt)))))))))
+examples = (tt, (tt, (tt, (tt, (tt, (tt, (tt, ((λ k. refl, λ k. refl), (tt, tt)))))))))
 
 -- The tests, limits and blocks are right where a wrong definition would still look right.
 pub borders-hold : AllNamed borders
 unfolding everything
-borders-hold = (tt, (tt, (tt, (tt, (tt, (tt, (tt, (tt, (tt, (tt, tt))))))))))
+borders-hold = (tt, (tt, (tt, (tt, (tt, (tt, (tt, (tt, (tt, (tt, (tt, tt)))))))))))
 
 -- So are the listing's counts.
 pub counts-hold : AllNamed counts
 unfolding everything
 counts-hold = (tt, tt)
+
+-- Pairs come, go and come back with the bits that hide them, the cells that block them and the radius.
+pub updates-hold : AllNamed updates
+unfolding everything
+updates-hold = (tt, (tt, tt))
