@@ -1,7 +1,7 @@
 -- Demand 3 holds of every run from every opening. Assumes nothing.
 use Prim.Native.Nat.{ℕ, _+_, _≤_}
-use mathlib.Core.Path.{_≡_, refl, sym, ap, _∙_, subst}
-use mathlib.Core.Bool.{true, false, _&&_}
+use mathlib.Core.Path.{_≡_, refl, sym, _∙_, subst}
+use mathlib.Core.Bool.{true, _&&_}
 use mathlib.Core.List.{List, []}
 use mathlib.Core.Option.{Option·none-ne-some}
 use lib.Dec.{T}
@@ -13,7 +13,7 @@ use Rattle.ieee.specs.Constants.{nought}
 use Rattle.ieee.specs.Whole.{ceilZ}
 use Rattle.ieee.specs.Yard.{shiftF, isPower, isWhole, inYard}
 use Rattle.ieee.proofs.Tools.{same-test, T-true}
-use Rattle.model.specs.Maps.{has, get, isSome}
+use Rattle.model.specs.Maps.{get, isSome}
 use Rattle.model.specs.Limits.{maxCoordinate, maxShift}
 use Rattle.model.specs.Batch.{cellsAfter, confirmed, cornerChanges}
 use Rattle.model.specs.Corner.{cornerCells}

@@ -1,9 +1,5 @@
 -- The examples of document 01, computed. Assumes nothing.
-use mathlib.Core.Path.{_≡_, refl}
-use Prim.Native.Nat.{ℕ}
-use mathlib.Core.List.{List, [], _∷_}
-use mathlib.Core.Option.{none, some}
-use lib.IntN.{pos, negsuc}
+use mathlib.Core.Path.{refl}
 use lib.Ieee.{add, sub, mul, div, lt, le, eq, neg, ofInt, ofBits}
 use Rattle.ieee.specs.Pick.{absF, minF, maxF}
 use Rattle.ieee.specs.Root.{rootF}
@@ -17,14 +13,14 @@ use Rattle.model.specs.Plane.{plus, minus, times, over, dot, norm, turne
 use Rattle.model.specs.Segment.{verticalAt, horizontalAt, distance, nearCorners, between, meets, passesNear}
 use Rattle.model.specs.Shape.{pointTest, lowEnd, highEnd, inBox, squareTest, pointInside, lineInside, inCircle, circleTest, stripOf, leftmost, rightmost, endsIn, sidesAt, search, rowIn, inColumn, inStrip, sweepTest}
 use Rattle.model.specs.Layer.{line, edge, tie, untie, link, hide, erase, marks, raise, lower, mark, markAll, phase2, wanted, connect, phase3, edgeRun, settleRow, settleAll, phase4, update, pairsFrom, pairs}
-use Rattle.model.specs.Map.{Op, toBatch, shiftOf, tests, changed, rebuilt, next}
+use Rattle.model.specs.Map.{toBatch, shiftOf, tests, changed, rebuilt, next}
 use Rattle.model.specs.Refusal.{firstOf, verdict, short, badSize, badRadius, unsorted, outside, refuseOpen, judge, refusal, step, run, refusals, opened}
 use Rattle.model.specs.Answers.{changedCorners, freePoints, fromPoint, fromElsewhere, visibleFrom, neighbours, corners, points, allPairs, isOpen, openPairs}
 use Rattle.model.specs.Blocks.{adjacent, touches, union, joinCell, blocksOf, blockCount}
 use Rattle.model.specs.MapFile.{bigEndian, entries, badFlag, takeSize, takeRadius, takeBatch, sized, oneField, readOn, readFile}
 use Rattle.model.specs.Listing.{text, digits, cellText, pointLines, pairLines, summary, refusedLine, listing}
 use Rattle.model.specs.Borders.{near, nearTest, bits, joins, borders, answers, counts, sixPoints, filled, leaving, bothEnds, through, hiding, blocking, updates, head, heads, gives, files, AllNamed}
-use Rattle.model.specs.Examples.{c, num, pt, at, after, setRadius, pointStatus, pointBlock, pairBlock, flat, lies, twoCells, oneFreed, table, Each, circle?, ten, tenAgain, others, workedFile, workedListing}
+use Rattle.model.specs.Examples.{num, pt, at, after, setRadius, pointStatus, pointBlock, pairBlock, flat, lies, twoCells, oneFreed, table, Each, circle?, ten, tenAgain, others, workedFile, workedListing}
 
 -- what is to be computed, said once: whoever unfolds this unfolds all of it
 unfoldable pub everything : Unit {0}
