@@ -6,13 +6,14 @@ use mathlib.Core.List.{List, [], _∷_, _++_}
 use mathlib.Core.Option.{Option, none, some}
 use lib.Dec.{T, eqb}
 use lib.IntN.{ℤ, pos, negsuc}
+use lib.Signed.{leZ}
 use lib.Ieee.{Float, binary64, ofInt}
 use Rattle.ieee.specs.Constants.{pow2}
 use Rattle.model.specs.Maps.{get, isSome}
 use Rattle.model.specs.Cell.{key, xOf, yOf}
 use Rattle.model.specs.Corner.{Bits, number, statusOf}
 use Rattle.model.specs.Plane.{Pt, cellOf}
-use Rattle.model.specs.Shape.{from, pointTest, squareTest, circleTest}
+use Rattle.model.specs.Shape.{pointTest, squareTest, circleTest}
 use Rattle.model.specs.Layer.{Point, edge}
 use Rattle.model.specs.Map.{Map, Entry, Op, batch, radius, shiftOf, fresh}
 use Rattle.model.specs.Refusal.{refusal, run, opened}
@@ -83,9 +84,12 @@ same [] (b ∷ m) = false
 same (a ∷ l) [] = false
 same (a ∷ l) (b ∷ m) = eqb a b && same l m
 
--- a square of width w at (128, 128) covers the cells from lo up to but not including hi on both axes, and no other: occupied alone, cell k is found or not
+-- a square of width w at (128, 128) covers the cells from lo to hi on both axes, and no other: it finds cell k, occupied alone, exactly if k is one of them
+abbrev pub spans : ℤ → ℤ → ℤ → Bool
+spans lo hi z = leZ lo z && leZ z hi
+
 abbrev pub Covers : ℕ → ℤ → ℤ → Type 0
-Covers w lo hi = (k : ℕ) → squareTest c (k ∷ []) (pt (pos 128) (pos 128)) (num (pos w)) .cell ≡ cond (from lo hi (xOf k) && from lo hi (yOf k)) (some k) none
+Covers w lo hi = (k : ℕ) → squareTest c (k ∷ []) (pt (pos 128) (pos 128)) (num (pos w)) .cell ≡ cond (spans lo hi (xOf k) && spans lo hi (yOf k)) (some k) none
 
 -- the cell of (x, x) is (i, i)
 unfoldable pub lies : ℤ → ℤ → Bool
@@ -115,7 +119,7 @@ table =
       T (eqb (cell? (pointTest c (at (pos 1) (pos 1) ∷ []) (pt (pos 256) (pos 256)) .cell)) (at (pos 1) (pos 1))
           && not (isSome (squareTest c (at (pos 1) (pos 1) ∷ []) (pt (pos 256) (pos 256)) (num (pos 0)) .cell))),
     )
-    ∷ (8, Covers 256 (pos 0) (pos 1) × Covers 258 (negsuc 0) (pos 2))
+    ∷ (8, Covers 256 (pos 0) (pos 0) × Covers 258 (negsuc 0) (pos 1))
     ∷ (11, T (eqb (refusal (batch (fill (pos 0) (pos 0) ∷ fill (pos 0) (pos 0) ∷ [])) (fresh c (num (pos 128)))) 4))
     ∷ []
 
