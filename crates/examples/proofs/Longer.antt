@@ -8,7 +8,7 @@ use Rattle.model.specs.Layer.{edge}
 use Rattle.model.specs.Map.{Op}
 use Rattle.model.specs.Refusal.{refusals, opened}
 use Rattle.model.specs.Listing.{listing}
-use Rattle.model.specs.Borders.{answers, updates, blockers, files, AllNamed}
+use Rattle.model.specs.Borders.{answers, files, AllNamed}
 use Rattle.model.specs.Examples.{c, num, at, after, ten, tenAgain, others, workedFile, workedListing, All}
 use Rattle.model.proofs.Examples.{everything}
 
@@ -29,20 +29,10 @@ pub blockers-remember : Remembered
 unfolding everything
 blockers-remember = (ten, tenAgain, refl, refl, refl, refl, at (negsuc 1) (pos 2), at (pos 2) (pos 2), refl, refl)
 
--- So are visibility, open pairs and neighbours.
+-- Visibility, open pairs, neighbours and corner changes are right where a wrong definition would still look right.
 pub answers-hold : AllNamed answers
 unfolding everything
-answers-hold = (tt, (tt, tt))
-
--- Pairs come, go and come back with the bits that hide them.
-pub updates-hold : AllNamed updates
-unfolding everything
-updates-hold = (tt, (tt, (tt, tt)))
-
--- Blockers of stored pairs come and go with the cells.
-pub blockers-hold : AllNamed blockers
-unfolding everything
-blockers-hold = (tt, (tt, (tt, tt)))
+answers-hold = (tt, (tt, (tt, tt)))
 
 -- Examples 9 and 10, which document 01 leaves to be run, hold too.
 pub examples-run : All others

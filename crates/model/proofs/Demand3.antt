@@ -1,7 +1,7 @@
 -- Demand 3 holds of every run from every opening. Assumes nothing.
 use Prim.Native.Nat.{ℕ, _+_, _≤_}
-use mathlib.Core.Path.{_≡_, refl, sym, ap, _∙_, subst}
-use mathlib.Core.Bool.{true, false, _&&_}
+use mathlib.Core.Path.{_≡_, refl, sym, _∙_, subst}
+use mathlib.Core.Bool.{true, _&&_}
 use mathlib.Core.List.{List, []}
 use mathlib.Core.Option.{Option·none-ne-some}
 use lib.Dec.{T}
@@ -13,7 +13,7 @@ use Rattle.ieee.specs.Constants.{nought}
 use Rattle.ieee.specs.Whole.{ceilZ}
 use Rattle.ieee.specs.Yard.{shiftF, isPower, isWhole, inYard}
 use Rattle.ieee.proofs.Tools.{same-test, T-true}
-use Rattle.model.specs.Maps.{has, get, isSome}
+use Rattle.model.specs.Maps.{get, isSome}
 use Rattle.model.specs.Limits.{maxCoordinate, maxShift}
 use Rattle.model.specs.Batch.{cellsAfter, confirmed, cornerChanges}
 use Rattle.model.specs.Corner.{cornerCells}
@@ -21,10 +21,10 @@ use Rattle.model.specs.Layer.{edge, update}
 use Rattle.model.specs.Good.{bitsIn, want, Inside}
 use Rattle.model.specs.Map.{Map, Op, batch, radius, toBatch, shiftOf, tests, emptyLayer, changed, rebuilt, next}
 use Rattle.model.specs.Refusal.{refusal, run, opened}
-use Rattle.model.specs.Demand3.{history, lastWord, Demand}
+use Rattle.model.specs.Demand3.{Demand}
 use Rattle.model.proofs.TestLaws.{shift-le, tests-shift}
 use Rattle.model.proofs.LayerLaws.{joined-eq}
-use Rattle.model.proofs.RunLaws.{Sound, run-keeps, next-sound, opened-is, open-sound, run-cells, open-cells, Roomy, next-roomy, open-roomy, refused-step}
+use Rattle.model.proofs.RunLaws.{Sound, run-keeps, next-sound, opened-is, open-sound, run-cells, run-radius, run-size, Roomy, next-roomy, open-roomy, refused-step}
 use Rattle.model.proofs.YardSquare.{square-whole}
 use Rattle.model.proofs.YardBlockers.{Blocked, change-exact, rebuild-exact}
 use Rattle.model.proofs.PointPlaces.{point-inside}
@@ -65,15 +65,13 @@ yard-shift : (c r : Float) → inYard c r ≡ true → shiftOf c r ≤ maxShift
 unfolding inYard
 yard-shift c r y = shift-le c r (and-r (isPower 10 c && isWhole r && le nought r) (leZ (ceilZ (shiftF c r)) (pos maxShift)) (T-true y))
 
-none-has : (k : ℕ) → has k [] ≡ false
-unfolding has
-none-has k = refl
-
 -- ---- Demand 3: on a fresh map, after any run of batches and radius changes, refused ones among them, the map is as it should be (specs/Demand3.antt).
 pub demand3 : (c r : Float) (os : List Op) → Demand c r os (run os (opened c r))
 demand3 c r os =
     record {
-      cells = λ k. run-cells os (opened c r) k ∙ ap (λ (C : List ℕ). lastWord (history os (opened c r)) k (has k C)) (open-cells c r) ∙ ap (lastWord (history os (opened c r)) k) (none-has k);
+      size = run-size c r os;
+      radius = run-radius c r os;
+      cells = run-cells c r os;
       good = K .0;
       yard = λ f g y k p e. K .1 f g y k p e (point-inside (shiftOf (m .size) (m .layer .radius)) (m .cells) (m .layer) (yard-shift (m .size) (m .layer .radius) y) (K .0) k p e);
       room = K .2;

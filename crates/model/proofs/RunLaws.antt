@@ -21,7 +21,7 @@ use Rattle.model.specs.Layer.{edge, line, update}
 use Rattle.model.specs.Good.{bitsIn, want, Inside, Good}
 use Rattle.model.specs.Map.{Map, Entry, Op, batch, radius, toBatch, shiftOf, tests, emptyLayer, fresh, changed, rebuilt, next}
 use Rattle.model.specs.Refusal.{Checks, firstOf, verdict, short, badSize, badRadius, before, unsorted, offMap, outside, crowded, packed, judge, refusal, unless, step, run, nothing, refuseOpen, opened}
-use Rattle.model.specs.Demand3.{told, history, lastWord}
+use Rattle.model.specs.Demand3.{recorded, accepted, told, history, lastWord, toldRadius, lastRadius, granted}
 use Rattle.model.proofs.OrderLaws.{asc-down, no-ltb}
 use Rattle.model.proofs.BatchLaws.{cells-last}
 use Rattle.model.proofs.LayerLaws.{change-good, rebuild-good}
@@ -169,38 +169,72 @@ opened-is P c r f p = go (refuseOpen [] c r) refl
 pub open-sound : (c r : Float) → Sound (opened c r)
 open-sound c r = opened-is Sound c r (λ e. empty-sound (shiftOf c r) r) (empty-sound (shiftOf nought nought) nought)
 
+-- ---- a run is what its accepted operations do
+unfoldable done : List Op → Map → Map
+done [] m = m
+done (o ∷ os) m = done os (next o m)
+
+run-done : (os : List Op) (m : Map) → run os m ≡ done (accepted os m) m
+unfolding run accepted done step refusal
+run-done [] m = refl
+run-done (o ∷ os) m = go (judge [] o m (next o m)) (run-done os)
+  where
+    go : (n : ℕ) → ((m : Map) → run os m ≡ done (accepted os m) m) → run os (unless n (next o m) m) ≡ done (recorded n o (accepted os (unless n (next o m) m))) m
+    go zero ih = ih (next o m)
+    go (suc n) ih = ih m
+
 -- ---- the occupied cells are those last accepted
 word-append : (b h : Batch) (k : ℕ) (v : Bool) → lastWord (b ++ h) k v ≡ lastWord h k (lastWord b k v)
 unfolding lastWord
 word-append [] h k v = refl
 word-append (e ∷ b) h k v = word-append b h k (cond (eqb k (e .0)) (e .1) v)
 
-next-cells : (o : Op) (m : Map) (k : ℕ) → has k (next o m .cells) ≡ lastWord (told o 0) k (has k (m .cells))
-unfolding next changed rebuilt told lastWord
+next-cells : (o : Op) (m : Map) (k : ℕ) → has k (next o m .cells) ≡ lastWord (told o) k (has k (m .cells))
+unfolding next changed rebuilt lastWord
 next-cells (batch l) m k = cells-last (toBatch l) (m .cells) k
 next-cells (radius r) m k = refl
 
-refused-told : (o : Op) (n : ℕ) → told o (suc n) ≡ []
-unfolding told
-refused-told (batch l) n = refl
-refused-told (radius r) n = refl
+done-cells : (os : List Op) (m : Map) (k : ℕ) → has k (done os m .cells) ≡ lastWord (history os) k (has k (m .cells))
+unfolding done history lastWord
+done-cells [] m k = refl
+done-cells (o ∷ os) m k = done-cells os (next o m) k ∙ ap (lastWord (history os) k) (next-cells o m k) ∙ sym (word-append (told o) (history os) k (has k (m .cells)))
 
-step-cells : (o : Op) (m : Map) (k : ℕ) → has k (step o m .cells) ≡ lastWord (told o (refusal o m)) k (has k (m .cells))
-unfolding step refusal lastWord
-step-cells o m k = go (judge [] o m (next o m))
+open-cells : (c r : Float) (k : ℕ) → has k (opened c r .cells) ≡ false
+unfolding has
+open-cells c r k = opened-is (λ m. has k (m .cells) ≡ false) c r (λ e. refl) refl
+
+pub run-cells : (c r : Float) (os : List Op) (k : ℕ) → has k (run os (opened c r) .cells) ≡ lastWord (history (accepted os (opened c r))) k false
+run-cells c r os k = rw (run-done os (opened c r), done-cells (accepted os (opened c r)) (opened c r) k, open-cells c r k) refl
+
+-- ---- the radius is the one last accepted, and the cell size the opening's
+next-radius : (o : Op) (m : Map) → next o m .layer .radius ≡ toldRadius o (m .layer .radius)
+unfolding next changed rebuilt update
+next-radius (batch l) m = refl
+next-radius (radius r) m = refl
+
+done-radius : (os : List Op) (m : Map) → done os m .layer .radius ≡ lastRadius os (m .layer .radius)
+unfolding done lastRadius
+done-radius [] m = refl
+done-radius (o ∷ os) m = done-radius os (next o m) ∙ ap (lastRadius os) (next-radius o m)
+
+next-size : (o : Op) (m : Map) → next o m .size ≡ m .size
+unfolding next changed rebuilt
+next-size (batch l) m = refl
+next-size (radius r) m = refl
+
+open-grants : (c r : Float) → (opened c r .size ≡ granted (refuseOpen [] c r) c) × (opened c r .layer .radius ≡ granted (refuseOpen [] c r) r)
+unfolding opened
+open-grants c r = go (refuseOpen [] c r)
   where
-    go : (n : ℕ) → has k (unless n (next o m) m .cells) ≡ lastWord (told o n) k (has k (m .cells))
-    go zero = next-cells o m k
-    go (suc n) = rw (refused-told o n) refl
+    go : (n : ℕ) → (unless n (fresh c r) nothing .size ≡ granted n c) × (unless n (fresh c r) nothing .layer .radius ≡ granted n r)
+    go zero = (refl, refl)
+    go (suc n) = (refl, refl)
 
-pub run-cells : (os : List Op) (m : Map) (k : ℕ) → has k (run os m .cells) ≡ lastWord (history os m) k (has k (m .cells))
-unfolding run history lastWord
-run-cells [] m k = refl
-run-cells (o ∷ os) m k =
-    run-cells os (step o m) k ∙ ap (lastWord (history os (step o m)) k) (step-cells o m k) ∙ sym (word-append (told o (refusal o m)) (history os (step o m)) k (has k (m .cells)))
+pub run-radius : (c r : Float) (os : List Op) → run os (opened c r) .layer .radius ≡ lastRadius (accepted os (opened c r)) (granted (refuseOpen [] c r) r)
+run-radius c r os = rw (run-done os (opened c r), done-radius (accepted os (opened c r)) (opened c r), open-grants c r .1) refl
 
-pub open-cells : (c r : Float) → opened c r .cells ≡ []
-open-cells c r = opened-is (λ m. m .cells ≡ []) c r (λ e. refl) refl
+pub run-size : (c r : Float) (os : List Op) → run os (opened c r) .size ≡ granted (refuseOpen [] c r) c
+run-size c r os = run-keeps (λ m. m .size ≡ granted (refuseOpen [] c r) c) (λ o m e s. next-size o m ∙ s) os (opened c r) (open-grants c r .0)
 
 -- ---- room: what is accepted keeps the limits
 abbrev pub Roomy : Map → Type 0

@@ -15,12 +15,12 @@ use Rattle.model.specs.Plane.{Pt, centre}
 use Rattle.model.specs.Segment.{passesNear}
 use Rattle.model.specs.Shape.{Found, pointTest, circleTest, sweepTest}
 use Rattle.model.specs.Layer.{Point, Pair, link}
-use Rattle.model.specs.Map.{Map, Op, batch, fresh}
-use Rattle.model.specs.Refusal.{badSize, badRadius, refusal}
+use Rattle.model.specs.Map.{Map, Op, batch, radius, fresh}
+use Rattle.model.specs.Refusal.{badSize, badRadius, judge, refusal, step, opened}
 use Rattle.model.specs.Answers.{changedCorners, visibleFrom, openPairs, neighbours}
 use Rattle.model.specs.Blocks.{blockCount}
 use Rattle.model.specs.Listing.{text, summary, listing}
-use Rattle.model.specs.Examples.{c, num, pt, at, fill, clear, after, pairBlock, flat, same, ten, tenAgain}
+use Rattle.model.specs.Examples.{c, num, pt, at, fill, clear, after, setRadius, pairBlock, flat, same, ten, tenAgain}
 
 -- ---- tests
 -- the segment between two cells' centres, and a cell, of size s
@@ -37,6 +37,13 @@ taken f = isSome (f .cell)
 -- 2.8, 2 ^ 55, 1e-9, 1e308, 16256 + 2 ^ -39, 1000.1, 500.05
 unfoldable pub bits : ℕ → Float
 bits n = ofBits binary64 n
+
+-- what an operation on an empty map is answered with, if it would leave n cells and p points: only their numbers are looked at
+unfoldable pub filled : ℕ → ℕ → Map
+filled n p = record { size = c; cells = replicate n 0; layer = record { radius = nought; points = replicate p (0, record { bits = zero4; block = none }); edges = [] } }
+
+unfoldable pub leaving : Op → ℕ → ℕ → ℕ
+leaving o n p = judge [] o (fresh c nought) (filled n p)
 
 unfoldable pub borders : List (String × Bool)
 borders =
@@ -76,6 +83,10 @@ borders =
           && eqb (refusal (batch (replicate 257 (fill (pos 0) (pos 0)))) (fresh c (num (pos 128)))) 3 && eqb (refusal (batch (replicate 256 (fill (pos 0) (pos 0)))) (fresh c (num (pos 128)))) 4,
     )
     ∷ (
+      "room is judged on the state afterwards: 1,024 cells and 64 points pass, one more does not",
+      eqb (leaving (batch []) 1024 64) 0 && eqb (leaving (batch []) 1025 64) 6 && eqb (leaving (batch []) 1024 65) 7 && eqb (leaving (radius nought) 1024 64) 0 && eqb (leaving (radius nought) 1024 65) 7,
+    )
+    ∷ (
       "cells that touch at a corner are two blocks, at a side one",
       eqb (blockCount (at (pos 0) (pos 0) ∷ at (pos 1) (pos 1) ∷ [])) 2 && eqb (blockCount (at (pos 0) (pos 0) ∷ at (pos 0) (pos 1) ∷ at (pos 1) (pos 1) ∷ [])) 1,
     )
@@ -98,36 +109,36 @@ answers = (
           (at (pos 1) (negsuc 0) ∷ at (pos 1) (pos 1) ∷ at (pos 2) (negsuc 0) ∷ at (pos 2) (pos 0) ∷ at (pos 2) (pos 1) ∷ [])
           && same (neighbours (after 128 (batch (fill (pos 0) (pos 0) ∷ []) ∷ [])) (at (pos 0) (pos 0))) [],
     )
-    ∷ []
-
--- ---- updates: (0,0) and (6,-6), r = 128, have the points (1,1) of status 8 and (5,-5) of status 4, which see each other; (2,0) gives (1,1) the bit 4, which hides them
-unfoldable pub seen : List Op
-seen = batch (fill (pos 0) (pos 0) ∷ fill (pos 6) (negsuc 5) ∷ []) ∷ []
-
-unfoldable pub hidden : List Op
-hidden = seen ++ (batch (fill (pos 2) (pos 0) ∷ []) ∷ [])
-
-unfoldable pub seenAgain : List Op
-seenAgain = hidden ++ (batch (clear (pos 2) (pos 0) ∷ []) ∷ [])
-
--- the pair as both ends have it
-unfoldable pub bothEnds : Map → ℕ → ℕ → List ℕ
-bothEnds m p q = pairBlock m p q ∷ pairBlock m q p ∷ []
-
-unfoldable pub updates : List (String × Bool)
-updates =
-    ("a pair is held from both ends", same (bothEnds (after 128 seen) (at (pos 1) (pos 1)) (at (pos 5) (negsuc 4))) (0 ∷ 0 ∷ []))
-    ∷ ("a bit that is set hides a pair", same (bothEnds (after 128 hidden) (at (pos 1) (pos 1)) (at (pos 5) (negsuc 4))) (1 ∷ 1 ∷ []))
-    ∷ ("a bit that is cleared shows it again", same (bothEnds (after 128 seenAgain) (at (pos 1) (pos 1)) (at (pos 5) (negsuc 4))) (0 ∷ 0 ∷ []))
-    ∷ []
-
-unfoldable pub blockers : List (String × Bool)
-blockers =
-    ("an added cell that passes near blocks a stored pair, from both ends", same (bothEnds (after 200 ten) (at (negsuc 1) (pos 2)) (at (pos 2) (pos 2))) (at (negsuc 2) (pos 2) ∷ at (negsuc 2) (pos 2) ∷ []))
-    ∷ ("freeing it repeats the sweep", same (bothEnds (after 200 (ten ++ (batch (clear (negsuc 2) (pos 2) ∷ []) ∷ []))) (at (negsuc 1) (pos 2)) (at (pos 2) (pos 2))) (0 ∷ 0 ∷ []))
     ∷ (
       "a corner change at a diagonal neighbour is listed, in the order met",
       same (flat (changedCorners (fill (pos 1) (pos 1) ∷ []) (after 128 (batch (fill (pos 0) (pos 0) ∷ []) ∷ [])))) (at (pos 0) (pos 0) ∷ 7 ∷ at (pos 1) (pos 1) ∷ 14 ∷ []),
+    )
+    ∷ []
+
+-- ---- updates: a pair through a run, as both its ends have it after each operation (1 for no pair, 0 for no blocker)
+unfoldable pub bothEnds : Map → ℕ → ℕ → List ℕ
+bothEnds m p q = pairBlock m p q ∷ pairBlock m q p ∷ []
+
+unfoldable pub through : List Op → ℕ → ℕ → Map → List ℕ
+through [] p q m = []
+through (o ∷ os) p q m = let n = step o m in bothEnds n p q ++ through os p q n
+
+-- (0,0) and (6,-6), r = 128, have the points (1,1) of status 8 and (5,-5) of status 4, which see each other; (2,0) gives (1,1) the bit 4, which hides them
+unfoldable pub hiding : List Op
+hiding = batch (fill (pos 0) (pos 0) ∷ fill (pos 6) (negsuc 5) ∷ []) ∷ batch (fill (pos 2) (pos 0) ∷ []) ∷ batch (clear (pos 2) (pos 0) ∷ []) ∷ []
+
+-- the cells of example 10, r = 200; the second is freed again; with r = 128 the points are one cell away from their corners and not two
+unfoldable pub blocking : List Op
+blocking = ten ++ (batch (clear (negsuc 2) (pos 2) ∷ []) ∷ setRadius 128 ∷ [])
+
+unfoldable pub updates : List (String × Bool)
+updates = (
+  "a pair is held from both ends; a bit that is set hides it, one that is cleared shows it again",
+  same (through hiding (at (pos 1) (pos 1)) (at (pos 5) (negsuc 4)) (opened c (num (pos 128)))) (0 ∷ 0 ∷ 1 ∷ 1 ∷ 0 ∷ 0 ∷ []),
+)
+    ∷ (
+      "an added cell that passes near blocks a stored pair, from both ends; freeing it repeats the sweep; another radius has other points",
+      same (through blocking (at (negsuc 1) (pos 2)) (at (pos 2) (pos 2)) (opened c (num (pos 200)))) (0 ∷ 0 ∷ at (negsuc 2) (pos 2) ∷ at (negsuc 2) (pos 2) ∷ 0 ∷ 0 ∷ 1 ∷ 1 ∷ []),
     )
     ∷ []
 

@@ -1,17 +1,19 @@
 -- The floor examples of document 01, all at c = 256, as tests of the definitions. `table` has those that are marked P. proofs/Examples.antt shows that all pass.
 use Prim.Native.Nat.{ℕ}
+use mathlib.Core.Path.{_≡_}
 use mathlib.Core.Bool.{Bool, true, false, not, cond, _&&_}
 use mathlib.Core.List.{List, [], _∷_, _++_}
 use mathlib.Core.Option.{Option, none, some}
 use lib.Dec.{T, eqb}
 use lib.IntN.{ℤ, pos, negsuc}
-use lib.Ieee.{Float, binary64, div, ofInt}
+use lib.Signed.{leZ}
+use lib.Ieee.{Float, binary64, ofInt}
 use Rattle.ieee.specs.Constants.{pow2}
 use Rattle.model.specs.Maps.{get, isSome}
-use Rattle.model.specs.Cell.{key}
+use Rattle.model.specs.Cell.{key, xOf, yOf}
 use Rattle.model.specs.Corner.{Bits, number, statusOf}
 use Rattle.model.specs.Plane.{Pt, cellOf}
-use Rattle.model.specs.Shape.{pointTest, squareTest, inBox, circleTest}
+use Rattle.model.specs.Shape.{pointTest, squareTest, circleTest}
 use Rattle.model.specs.Layer.{Point, edge}
 use Rattle.model.specs.Map.{Map, Entry, Op, batch, radius, shiftOf, fresh}
 use Rattle.model.specs.Refusal.{refusal, run, opened}
@@ -82,16 +84,12 @@ same [] (b ∷ m) = false
 same (a ∷ l) [] = false
 same (a ∷ l) (b ∷ m) = eqb a b && same l m
 
--- which of the cells -2 to 2 a square of width w at (128, 128) covers along x, then along y
-abbrev pub flags : List Bool → List ℕ
-flags [] = []
-flags (b ∷ l) = cond b 1 0 ∷ flags l
+-- a square of width w at (128, 128) covers the cells from lo to hi on both axes, and no other: it finds cell k, occupied alone, exactly if k is one of them
+abbrev pub spans : ℤ → ℤ → ℤ → Bool
+spans lo hi z = leZ lo z && leZ z hi
 
-unfoldable pub cover : ℕ → List ℕ
-cover w =
-    let q = inBox c (pt (pos 128) (pos 128)) (div binary64 (num (pos w)) (pow2 1)) in
-    flags (q (at (negsuc 1) (pos 0)) ∷ q (at (negsuc 0) (pos 0)) ∷ q (at (pos 0) (pos 0)) ∷ q (at (pos 1) (pos 0)) ∷ q (at (pos 2) (pos 0))
-    ∷ q (at (pos 0) (negsuc 1)) ∷ q (at (pos 0) (negsuc 0)) ∷ q (at (pos 0) (pos 0)) ∷ q (at (pos 0) (pos 1)) ∷ q (at (pos 0) (pos 2)) ∷ [])
+abbrev pub Covers : ℕ → ℤ → ℤ → Type 0
+Covers w lo hi = (k : ℕ) → squareTest c (k ∷ []) (pt (pos 128) (pos 128)) (num (pos w)) .cell ≡ cond (spans lo hi (xOf k) && spans lo hi (yOf k)) (some k) none
 
 -- the cell of (x, x) is (i, i)
 unfoldable pub lies : ℤ → ℤ → Bool
@@ -104,26 +102,30 @@ unfoldable pub oneFreed : List Op
 oneFreed = twoCells ++ (batch (clear (pos 0) (pos 0) ∷ []) ∷ [])
 
 -- ---- the table: each line has the number that document 01 gives it
-unfoldable pub table : List (ℕ × Bool)
+abbrev pub table : List (ℕ × Type 0)
 table =
-    (1, eqb (shiftOf c (num (pos 0))) 1 && eqb (shiftOf c (num (pos 128))) 1 && eqb (shiftOf c (num (pos 129))) 2)
-    ∷ (2, lies (negsuc 0) (negsuc 0) && lies (pos 0) (pos 0) && lies (pos 256) (pos 1))
-    ∷ (3, eqb (number (statusOf (at (pos 0) (pos 0) ∷ []) (at (pos 0) (pos 0)))) 15)
-    ∷ (4, same (flat (changedCorners (fill (pos 1) (pos 0) ∷ []) (after 128 (batch (fill (pos 0) (pos 0) ∷ []) ∷ [])))) (at (pos 0) (pos 0) ∷ 5 ∷ at (pos 1) (pos 0) ∷ 10 ∷ []))
+    (1, T (eqb (shiftOf c (num (pos 0))) 1 && eqb (shiftOf c (num (pos 128))) 1 && eqb (shiftOf c (num (pos 129))) 2))
+    ∷ (2, T (lies (negsuc 0) (negsuc 0) && lies (pos 0) (pos 0) && lies (pos 256) (pos 1)))
+    ∷ (3, T (eqb (number (statusOf (at (pos 0) (pos 0) ∷ []) (at (pos 0) (pos 0)))) 15))
+    ∷ (4, T (same (flat (changedCorners (fill (pos 1) (pos 0) ∷ []) (after 128 (batch (fill (pos 0) (pos 0) ∷ []) ∷ [])))) (at (pos 0) (pos 0) ∷ 5 ∷ at (pos 1) (pos 0) ∷ 10 ∷ [])))
     ∷ (
       5,
-      eqb (number (statusOf (at (pos 0) (pos 0) ∷ at (pos 1) (pos 1) ∷ []) (at (pos 0) (pos 0)))) 7
-          && eqb (number (statusOf (at (pos 0) (pos 0) ∷ at (pos 1) (pos 1) ∷ []) (at (pos 1) (pos 1)))) 14,
+      T (eqb (number (statusOf (at (pos 0) (pos 0) ∷ at (pos 1) (pos 1) ∷ []) (at (pos 0) (pos 0)))) 7
+          && eqb (number (statusOf (at (pos 0) (pos 0) ∷ at (pos 1) (pos 1) ∷ []) (at (pos 1) (pos 1)))) 14),
     )
-    ∷ (6, eqb (pointStatus (after 128 twoCells) (at (pos 1) (pos 1))) 9 && eqb (pointStatus (after 128 oneFreed) (at (pos 1) (pos 1))) 1)
+    ∷ (6, T (eqb (pointStatus (after 128 twoCells) (at (pos 1) (pos 1))) 9 && eqb (pointStatus (after 128 oneFreed) (at (pos 1) (pos 1))) 1))
     ∷ (
       7,
-      eqb (cell? (pointTest c (at (pos 1) (pos 1) ∷ []) (pt (pos 256) (pos 256)) .cell)) (at (pos 1) (pos 1))
-          && not (isSome (squareTest c (at (pos 1) (pos 1) ∷ []) (pt (pos 256) (pos 256)) (num (pos 0)) .cell)),
+      T (eqb (cell? (pointTest c (at (pos 1) (pos 1) ∷ []) (pt (pos 256) (pos 256)) .cell)) (at (pos 1) (pos 1))
+          && not (isSome (squareTest c (at (pos 1) (pos 1) ∷ []) (pt (pos 256) (pos 256)) (num (pos 0)) .cell))),
     )
-    ∷ (8, same (cover 256) (0 ∷ 0 ∷ 1 ∷ 0 ∷ 0 ∷ 0 ∷ 0 ∷ 1 ∷ 0 ∷ 0 ∷ []) && same (cover 258) (0 ∷ 1 ∷ 1 ∷ 1 ∷ 0 ∷ 0 ∷ 1 ∷ 1 ∷ 1 ∷ 0 ∷ []))
-    ∷ (11, eqb (refusal (batch (fill (pos 0) (pos 0) ∷ fill (pos 0) (pos 0) ∷ [])) (fresh c (num (pos 128)))) 4)
+    ∷ (8, Covers 256 (pos 0) (pos 0) × Covers 258 (negsuc 0) (pos 1))
+    ∷ (11, T (eqb (refusal (batch (fill (pos 0) (pos 0) ∷ fill (pos 0) (pos 0) ∷ [])) (fresh c (num (pos 128)))) 4))
     ∷ []
+
+abbrev pub Each : List (ℕ × Type 0) → Type 0
+Each [] = Unit {0}
+Each (e ∷ l) = e .1 × Each l
 
 abbrev pub All : List (ℕ × Bool) → Type 0
 All [] = Unit {0}
