@@ -24,6 +24,7 @@ use Rattle.question.specs.declared.search.Found.{Found}
 use Rattle.question.specs.declared.search.Question.{Question}
 use Rattle.questions.proofs.AskLaws.{search-placed}
 use Rattle.questions.specs.Ask.{cellAt, nowhere, placed}
+use Rattle.questions.specs.declared.ask.Answer.{Answer}
 use Rattle.questions.specs.declared.ask.Place.{Place}
 use Rattle.table.specs.Tables.{All}
 use Rattle.map_questions.specs.Asks.{Asking}
@@ -38,8 +39,8 @@ unknown-refused m cells e = true≢false (passed (short ((length cells, maxCells
 
 -- the number k was answered, where n is due, to the question q
 module _ (n k : ℕ) (Hold : model.Map → Type 0) (e : k ≡ n) (q : Question) where
-  pub asking-refused : (k ≡ 0 → ⊥) → Asking n Hold q (nowhere k)
-  asking-refused f = record { refusal = e; refused = λ j g. ap nowhere (e ∙ g); answer = λ M h z. absurd (f (e ∙ z)) }
+  pub asking-refused : (r : Answer) → (k ≡ 0 → ⊥) → r ≡ nowhere k → Asking n Hold q r
+  asking-refused r f g = record { refusal = ap (λ (a : Answer). a .refusal) g ∙ e; refused = λ j h. g ∙ ap nowhere (e ∙ h); answer = λ M h z. absurd (f (e ∙ z)) }
 
   pub asking-done : (p : Place) → k ≡ 0 → ((M : model.Map) → Hold M → placed p ≡ cellAt (question M (asked q) .cell)) → Asking n Hold q (record { refusal = 0; cell = p })
   asking-done p z w = record { refusal = sym z ∙ e; refused = λ j g. absurd (suc-ne-zero _ (sym (sym z ∙ e ∙ g))); answer = λ M h y. w M h }

@@ -22,7 +22,7 @@ pub struct Answer {
     pub cell: Place,
 }
 
-fn refused(number: u8) -> Answer
+pub fn refused(number: u8) -> Answer
     ensures { λ r. ⌜ r ≡ nowhere number ⌝ }
 {
     Answer {
