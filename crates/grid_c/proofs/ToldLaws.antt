@@ -1,7 +1,8 @@
 -- A refusal, and what was found, as one number; any two such answers that the contract permits are equal. Assumes nothing.
-use Prim.Native.Nat.{ℕ, zero, suc}
+use Prim.Native.Nat.{ℕ, zero, suc, _<_}
 use native.Mathlib.Nat.{suc-ne-zero}
 use mathlib.Core.Path.{_≡_, refl, sym, ap, _∙_}
+use mathlib.Core.Bool.{true}
 use mathlib.Core.List.{List}
 use mathlib.Core.Logic.{_⊎_, ⊎-elim}
 use mathlib.Core.Option.{Option, none, some}
@@ -10,6 +11,7 @@ use lib.Ieee.{Float}
 use Rattle.model.specs.Good.{Inside}
 use Rattle.model.specs.Limits.{maxCoordinate}
 use Rattle.model.specs.Maps.{AscL}
+use Rattle.model.specs.Refusal.{badQuestion}
 use Rattle.model.specs.Shape.{Question, ask}
 use Rattle.table.specs.Tables.{All}
 use Rattle.floor.specs.Floor.{Holds}
@@ -19,7 +21,7 @@ use Rattle.questions.specs.declared.numbered.Numbered.{Numbered}
 use Rattle.question.specs.Question.{asked}
 use Rattle.question.specs.Walk.{foundAs, keyed}
 use Rattle.question.specs.declared.search.Found.{Found}
-use Rattle.questions.proofs.AskLaws.{search-told}
+use Rattle.questions.proofs.AskLaws.{ask-short, search-told}
 use Rattle.grid_c.specs.Told.{Telling, Tells, keyOr}
 
 key-of : (o : Option ℕ) → keyed o .key ≡ keyOr o
@@ -48,3 +50,8 @@ module _ (t : List ℕ) (c : Float) (n : ℕ) (q : Question) where
 pub floor-ask-one : (t : List ℕ) (c : Float) (n : ℕ) (q : Numbered) (r₁ r₂ : ℕ) → Tells t c n q r₁ → Tells t c n q r₂ → ((C : List ℕ) × Holds t n C) ⊎ (refuseFloor (length t) c n (badNumbered q) ≡ 0 → ⊥) → r₁ ≡ r₂
 floor-ask-one t c n Numbered.Unknown r₁ r₂ x y s = x ∙ sym y
 floor-ask-one t c n (Numbered.Known q) r₁ r₂ x y s = told-one t c n (asked q) r₁ r₂ x y s
+
+-- a short table is told by 9, whatever it holds
+pub floor-ask-short : (t : List ℕ) (c : Float) (n : ℕ) (q : Numbered) (r : ℕ) → length t < 1024 → Tells t c n q r → r ≡ 9
+floor-ask-short t c n Numbered.Unknown r h x = x ∙ sym (ask-short (length t) c n true h)
+floor-ask-short t c n (Numbered.Known q) r h x = x .refused 8 (sym (ask-short (length t) c n (badQuestion (asked q)) h))
