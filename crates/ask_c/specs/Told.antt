@@ -1,7 +1,14 @@
 -- An answer as a struct for C: the refusal, and the cell or none (document 01). Definitions only.
 use Prim.Native.Nat.{ℕ}
 use mathlib.Core.Bool.{true, false}
+use mathlib.Core.List.{List}
+use mathlib.Core.Path.{_≡_}
+use lib.Ieee.{Float}
 use lib.IntN.{pos}
+use Rattle.held.specs.declared.map.Map.{Map}
+use Rattle.map_questions.specs.Asks.{AsksNumbered}
+use Rattle.plane.specs.declared.point.Point.{Point}
+use Rattle.questions.specs.Numbered.{questionOf}
 use Rattle.questions.specs.declared.ask.Answer.{Answer}
 use Rattle.questions.specs.declared.ask.Place.{Place}
 use Rattle.ask_c.specs.declared.Found.{Found}
@@ -13,3 +20,7 @@ foundAs n (Place.At c) = record { refusal = n; some = true; cell = c }
 
 abbrev pub foundOf : Answer → Found
 foundOf a = foundAs (a .refusal) (a .cell)
+
+-- the call: the map's answer to the question that the shape's number names, as a struct
+abbrev pub Asked : Map → List ℕ → ℕ → Point → Point → Float → Found → Type 0
+Asked m cells shape p q extent r = (a : Answer) × AsksNumbered m cells (questionOf shape p q extent) a × (r ≡ foundOf a)

@@ -1,16 +1,13 @@
 // The question of four shapes under a C name.
 use floor::cell::Cell;
 use held::map::Map;
-use map_questions::ask::ask;
+use map_questions::ask::ask_numbered;
 use plane::point::Point;
 use questions::ask::Answer;
 use questions::ask::Place;
 use questions::numbered::question_of;
 ghost use mathlib.Core.Path.{_≡_};
-ghost use Rattle.ask_c.specs.Told.{foundOf};
-ghost use Rattle.map_questions.specs.Asks.{Asks};
-ghost use Rattle.questions.specs.Numbered.{questionOf};
-ghost use Rattle.questions.specs.declared.ask.Answer.{Answer};
+ghost use Rattle.ask_c.specs.Told.{Asked, foundOf};
 
 // The refusal's number, whether a cell was found, and the cell; all else is zero where there is none.
 #[repr(C)]
@@ -38,7 +35,8 @@ fn told(answer: Answer) -> Found
     }
 }
 
-// The first occupied cell that qualifies. `q` counts for a sweep only, `extent` not for a point.
+// The first occupied cell that qualifies. `shape` is 0 for a point, 1 for a square, 2 for a circle, 3 for a sweep, and any other
+// number is refused with 8; `q` counts for a sweep only, `extent` not for a point.
 #[no_mangle]
 pub extern "C" fn runcedau_ask(
     map: Map,
@@ -48,7 +46,7 @@ pub extern "C" fn runcedau_ask(
     q: Point,
     extent: f64,
 ) -> Found
-    ensures { λ r. ⌜ ((a : Answer) × Asks map (now (cells .entry)) (questionOf shape p q extent) a × (r ≡ foundOf a)) ⌝ }
+    ensures { λ r. ⌜ Asked map (now (cells .entry)) shape p q extent r ⌝ }
 {
-    told(ask(map, cells, question_of(shape, p, q, extent)))
+    told(ask_numbered(map, cells, question_of(shape, p, q, extent)))
 }

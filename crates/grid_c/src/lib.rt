@@ -1,22 +1,18 @@
-// The floor under C names, for Rust and C to call: benchmarks and comparisons go through here.
+// A floor's batches and questions under C names, for the benchmark of cells alone. No part of the border: the map's calls answer
+// the same questions.
 use floor::floor::Floor;
 use grid::change::change_cells;
 use plane::point::Point;
 use question::search::search;
 use questions::ask::judge;
+use questions::judge::bad_question;
+use questions::numbered::Numbered;
 use questions::numbered::question_of;
-ghost use mathlib.Core.List.{List};
-ghost use mathlib.Core.Path.{_≡_};
-ghost use Prim.Native.Nat.{ℕ};
-ghost use lib.ListN.{length};
-ghost use Rattle.model.specs.Shape.{ask};
-ghost use Rattle.floor.specs.Floor.{Holds};
-ghost use Rattle.questions.specs.Ask.{refuseAsk};
 ghost use Rattle.grid_c.specs.Called.{Called};
-ghost use Rattle.grid_c.specs.Told.{question, told};
+ghost use Rattle.grid_c.specs.Told.{Tells, question};
 
 // The key of the cell found, 0 for none, or the refusal's number: no key is that small. What `ask` answers, with no `Place`
-// on the way: a match on it would be a branch.
+// on the way: a match on it would be a branch. `shape` as at the border: 0 a point, 1 a square, 2 a circle, 3 a sweep.
 #[no_mangle]
 pub extern "C" fn runcedau_floor_ask(
     shape: u8,
@@ -29,16 +25,18 @@ pub extern "C" fn runcedau_floor_ask(
     count: usize,
     cells: &[u64],
 ) -> u64
-    ensures { λ r. ⌜ ((C : List ℕ) → Holds (now (cells .entry)) count C
-        → r ≡ told (refuseAsk (length (now (cells .entry))) size count (question shape x0 y0 x1 y1 extent)) (ask size C (question shape x0 y0 x1 y1 extent))) ⌝ }
+    ensures { λ r. ⌜ Tells (now (cells .entry)) size count (question shape x0 y0 x1 y1 extent) r ⌝ }
 {
-    let question = question_of(
+    let numbered = question_of(
         shape,
         Point { x: x0, y: y0 },
         Point { x: x1, y: y1 },
         extent,
     );
-    let number = judge(cells.len(), size, count, question);
+    let Numbered::Known(question) = numbered else {
+        return judge(cells.len(), size, count, true) as u64;
+    };
+    let number = judge(cells.len(), size, count, bad_question(question));
     if number != 0 {
         return number as u64;
     }

@@ -9,8 +9,10 @@ use Rattle.occupied.specs.Lists.{Lent, due}
 use Rattle.question.specs.Question.{asked}
 use Rattle.question.specs.declared.search.Question.{Question}
 use Rattle.questions.proofs.Determinate.{place-one}
+use Rattle.questions.specs.Numbered.{badNumbered}
 use Rattle.questions.specs.declared.ask.Answer.{Answer}
-use Rattle.map_questions.specs.Asks.{Asks}
+use Rattle.questions.specs.declared.numbered.Numbered.{Numbered}
+use Rattle.map_questions.specs.Asks.{Asks, AsksNumbered}
 
 same-answer : (r q : Answer) → r .refusal ≡ q .refusal → r .cell ≡ q .cell → r ≡ q
 same-answer r q a b = rw (a, b) refl
@@ -20,3 +22,8 @@ pub ask-one : (m : Map) (cells : List ℕ) (question : Question) (r q : Answer) 
 ask-one m cells question r q u v =
     settled-one (due m cells [] (badQuestion (asked question))) (Lent m cells) r q (λ k e. u .refused k e ∙ sym (v .refused k e))
     (λ M h e. same-answer r q (u .refusal ∙ sym (v .refusal)) (place-one (r .cell) (q .cell) (u .answer M h e ∙ sym (v .answer M h e))))
+
+-- by its shape's number
+pub numbered-one : (m : Map) (cells : List ℕ) (n : Numbered) (r q : Answer) → AsksNumbered m cells n r → AsksNumbered m cells n q → Settled (due m cells [] (badNumbered n)) (Lent m cells) → r ≡ q
+numbered-one m cells Numbered.Unknown r q u v s = u ∙ sym v
+numbered-one m cells (Numbered.Known question) r q u v s = ask-one m cells question r q u v s

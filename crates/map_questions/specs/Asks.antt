@@ -1,6 +1,7 @@
 -- The question of four shapes, put to a map: the refusal that is due, the map that is held, and the answer (document 01; sparse_grid.rs). Definitions only.
 use Prim.Native.Nat.{ℕ, suc}
 use mathlib.Core.Path.{_≡_}
+use mathlib.Core.Bool.{true}
 use mathlib.Core.List.{List, []}
 use Rattle.held.specs.declared.map.Map.{Map}
 use Rattle.model.specs.Answers.{question}
@@ -11,6 +12,7 @@ use Rattle.question.specs.Question.{asked}
 use Rattle.question.specs.declared.search.Question.{Question}
 use Rattle.questions.specs.Ask.{cellAt, nowhere, placed}
 use Rattle.questions.specs.declared.ask.Answer.{Answer}
+use Rattle.questions.specs.declared.numbered.Numbered.{Numbered}
 
 -- the question q, where the refusal n is due or none
 pub record Asking (n : ℕ) (Hold : model.Map → Type 0) (q : Question) (r : Answer) : Type 0 where
@@ -21,3 +23,8 @@ pub record Asking (n : ℕ) (Hold : model.Map → Type 0) (q : Question) (r : An
 -- of the map m, which lends its cells
 abbrev pub Asks : Map → List ℕ → Question → Answer → Type 0
 Asks m cells q r = Asking (due m cells [] (badQuestion (asked q))) (Lent m cells) q r
+
+-- by its shape's number: one that names no shape is a query number outside its bounds, and the call is refused, whatever the tables hold
+abbrev pub AsksNumbered : Map → List ℕ → Numbered → Answer → Type 0
+AsksNumbered m cells Numbered.Unknown r = r ≡ nowhere (due m cells [] true)
+AsksNumbered m cells (Numbered.Known q) r = Asks m cells q r

@@ -5,26 +5,29 @@ use held::map::Map;
 use question::search::Question;
 use question::search::search;
 use questions::ask::Answer;
-use questions::ask::Place;
 use questions::ask::place_of;
-use questions::judge::bad_question;
-ghost use Rattle.map_questions.specs.Asks.{Asks};
+use questions::ask::refused;
+use questions::judge::bad_numbered;
+use questions::numbered::Numbered;
+ghost use Rattle.map_questions.specs.Asks.{Asks, AsksNumbered};
 
-// The first occupied cell of the map, by x, then y, that qualifies.
-pub fn ask(map: Map, cells: &[u64], question: Question) -> Answer
-    ensures { λ r. ⌜ Asks map (now (cells .entry)) question r ⌝ }
+// The first occupied cell of the map, by x, then y, that qualifies, of a question by its shape's number: one that names no shape
+// is a query number outside its bounds. Who asks with a number and who asks with a question come this one way, so that `refuse` is
+// called in one place: the compiler then makes no call of it.
+pub fn ask_numbered(map: Map, cells: &[u64], numbered: Numbered) -> Answer
+    ensures { λ r. ⌜ AsksNumbered map (now (cells .entry)) numbered r ⌝ }
 {
     let number = refuse(
         lacks(cells.len(), 1024, false),
         map,
         false,
-        bad_question(question),
+        bad_numbered(numbered),
     );
+    let Numbered::Known(question) = numbered else {
+        return refused(number);
+    };
     if number != 0 {
-        return Answer {
-            refusal: number,
-            cell: Place::Nothing,
-        };
+        return refused(number);
     }
     let n = map.cells;
     let found = search(map.size, &cells[..n], question);
@@ -32,4 +35,10 @@ pub fn ask(map: Map, cells: &[u64], question: Question) -> Answer
         refusal: 0,
         cell: place_of(found),
     }
+}
+
+pub fn ask(map: Map, cells: &[u64], question: Question) -> Answer
+    ensures { λ r. ⌜ Asks map (now (cells .entry)) question r ⌝ }
+{
+    ask_numbered(map, cells, Numbered::Known(question))
 }

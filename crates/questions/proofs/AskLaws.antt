@@ -2,7 +2,7 @@
 use Prim.Native.Nat.{ℕ, _≤_, _<_}
 use native.Mathlib.Nat.{suc-ne-zero}
 use mathlib.Core.Path.{_≡_, refl, sym, ap, _∙_, subst}
-use mathlib.Core.Bool.{Bool, true, false, cond, or-false}
+use mathlib.Core.Bool.{Bool, true, false, cond, or-false, true≢false}
 use mathlib.Core.List.{List}
 use mathlib.Core.Option.{Option, none, some}
 use lib.Dec.{ltb}
@@ -12,13 +12,14 @@ use borrow.Author.Tests.{lt-ltb, le-ltb, ltb-false}
 use Rattle.model.specs.Good.{Inside}
 use Rattle.model.specs.Limits.{maxCoordinate}
 use Rattle.model.specs.Maps.{AscL}
-use Rattle.model.specs.Refusal.{firstOf, verdict, short, badSize, badQuestion}
+use Rattle.model.proofs.RunLaws as model
+use Rattle.model.specs.Refusal.{firstOf, verdict, short, badSize}
 use Rattle.model.specs.Shape.{Question, ask}
 use Rattle.table.specs.Tables.{All}
 use Rattle.floor.specs.Floor.{Holds}
 use Rattle.floor.specs.declared.floor.Floor.{Floor}
 use Rattle.floor.proofs.FloorLaws.{holds-cells}
-use Rattle.questions.specs.Ask.{Asked, cellAt, nowhere, placed, refuseAsk}
+use Rattle.questions.specs.Ask.{Asked, cellAt, nowhere, placed, refuseAsk, refuseFloor}
 use Rattle.question.specs.Question.{asked}
 use Rattle.question.specs.Walk.{found, foundAs, keyed}
 use Rattle.questions.specs.declared.ask.Answer.{Answer}
@@ -26,38 +27,35 @@ use Rattle.questions.specs.declared.ask.Place.{Place}
 use Rattle.question.specs.declared.search.Found.{Found}
 use Rattle.question.specs.declared.search.Question as code
 
-module _ (room : ℕ) (c : Float) (n : ℕ) (q : Question) where
-  in-turn : refuseAsk room c n q ≡ cond (ltb room 1024) 9 (cond (badSize c) 1 (cond (ltb 1024 n) 6 (cond (badQuestion q) 8 0)))
-  unfolding refuseAsk verdict firstOf short
+module _ (room : ℕ) (c : Float) (n : ℕ) (bad : Bool) where
+  in-turn : refuseFloor room c n bad ≡ cond (ltb room 1024) 9 (cond (badSize c) 1 (cond (ltb 1024 n) 6 (cond bad 8 0)))
+  unfolding refuseFloor verdict firstOf short
   in-turn = rw (or-false (ltb room 1024)) refl
 
-  pub ask-short : room < 1024 → 9 ≡ refuseAsk room c n q
+  pub ask-short : room < 1024 → 9 ≡ refuseFloor room c n bad
   ask-short h = rw (in-turn, lt-ltb room 1024 h) refl
 
   module _ (h : 1024 ≤ room) where
-    pub ask-size : badSize c ≡ true → 1 ≡ refuseAsk room c n q
+    pub ask-size : badSize c ≡ true → 1 ≡ refuseFloor room c n bad
     ask-size s = rw (in-turn, le-ltb room 1024 h, s) refl
 
     module _ (s : badSize c ≡ false) where
-      pub ask-crowded : 1024 < n → 6 ≡ refuseAsk room c n q
+      pub ask-crowded : 1024 < n → 6 ≡ refuseFloor room c n bad
       ask-crowded w = rw (in-turn, le-ltb room 1024 h, s, lt-ltb 1024 n w) refl
 
-      module _ (w : n ≤ 1024) where
-        pub ask-query : badQuestion q ≡ true → 8 ≡ refuseAsk room c n q
-        ask-query b = rw (in-turn, le-ltb room 1024 h, s, le-ltb 1024 n w, b) refl
+      pub ask-query : n ≤ 1024 → cond bad 8 0 ≡ refuseFloor room c n bad
+      ask-query w = rw (in-turn, le-ltb room 1024 h, s, le-ltb 1024 n w) refl
 
-        pub ask-good : badQuestion q ≡ false → 0 ≡ refuseAsk room c n q
-        ask-good b = rw (in-turn, le-ltb room 1024 h, s, le-ltb 1024 n w, b) refl
+  -- what is not refused fits, and no query number is bad
+  pub ask-fits : refuseFloor room c n bad ≡ 0 → (1024 ≤ room) × (n ≤ 1024) × (bad ≡ false)
+  unfolding refuseFloor short
+  ask-fits e =
+      let p = model.passed _ e in
+      (ltb-false room 1024 (sym (or-false (ltb room 1024)) ∙ p .short), ltb-false 1024 n (p .cells), p .query)
 
-  -- what is not refused fits
-  pub ask-fits : refuseAsk room c n q ≡ 0 → (1024 ≤ room) × (n ≤ 1024)
-  ask-fits e = go (ltb room 1024) (badSize c) (ltb 1024 n) refl refl (sym in-turn ∙ e)
-    where
-      go : (a b d : Bool) → ltb room 1024 ≡ a → ltb 1024 n ≡ d → _≡_ {A = ℕ} (cond a 9 (cond b 1 (cond d 6 (cond (badQuestion q) 8 0)))) 0 → (1024 ≤ room) × (n ≤ 1024)
-      go true b d u v z = absurd (suc-ne-zero _ z)
-      go false true d u v z = absurd (suc-ne-zero _ z)
-      go false false true u v z = absurd (suc-ne-zero _ z)
-      go false false false u v z = (ltb-false room 1024 u, ltb-false 1024 n v)
+-- a bad query number is always refused
+pub bad-refused : (room : ℕ) (c : Float) (n : ℕ) → refuseFloor room c n true ≡ 0 → ⊥
+bad-refused room c n e = true≢false (ask-fits room c n true e .2)
 
 -- ---- what was found, on a floor that holds its cells
 pub search-told : (c : Float) (t : List ℕ) (n : ℕ) (q : Question) (o : Found)

@@ -1,7 +1,7 @@
 -- A question put to a floor: its refusals and its answer. Definitions only.
 use Prim.Native.Nat.{ℕ, suc}
 use mathlib.Core.Path.{_≡_}
-use mathlib.Core.Bool.{false}
+use mathlib.Core.Bool.{Bool, false}
 use mathlib.Core.List.{List, [], _∷_}
 use mathlib.Core.Option.{Option, none, some}
 use lib.Dec.{ltb}
@@ -29,9 +29,9 @@ abbrev pub cellAt : Option ℕ → Option (ℤ × ℤ)
 cellAt none = none
 cellAt (some k) = some (xOf k, yOf k)
 
--- the model's refusals of a question, for a floor of which no layer is asked: the lent places, the cell size, how many cells there are
-unfoldable pub refuseAsk : ℕ → Float → ℕ → model.Question → ℕ
-refuseAsk room c n q =
+-- the model's refusals of a question, for a floor of which no layer is asked: the lent places, the cell size, how many cells there are, whether a query number is bad
+unfoldable pub refuseFloor : ℕ → Float → ℕ → Bool → ℕ
+refuseFloor room c n bad =
     verdict
     (record {
       short = short ((room, maxCells) ∷ []);
@@ -42,8 +42,11 @@ refuseAsk room c n q =
       outside = false;
       cells = ltb maxCells n;
       points = false;
-      query = badQuestion q;
+      query = bad;
     })
+
+abbrev pub refuseAsk : ℕ → Float → ℕ → model.Question → ℕ
+refuseAsk room c n q = refuseFloor room c n (badQuestion q)
 
 -- a refused call answers its number, and nothing else
 abbrev pub nowhere : ℕ → Answer

@@ -7,8 +7,7 @@ use question::search::Found;
 use question::search::Question;
 use question::search::search;
 ghost use mathlib.Core.Path.{_≡_};
-ghost use Rattle.questions.specs.Ask.{Asked, cellAt, nowhere, placed, refuseAsk};
-ghost use Rattle.question.specs.Question.{asked};
+ghost use Rattle.questions.specs.Ask.{Asked, cellAt, nowhere, placed, refuseFloor};
 ghost use Rattle.question.specs.Walk.{found};
 
 // `Option<Cell>`.
@@ -23,7 +22,7 @@ pub struct Answer {
     pub cell: Place,
 }
 
-fn refused(number: u8) -> Answer
+pub fn refused(number: u8) -> Answer
     ensures { λ r. ⌜ r ≡ nowhere number ⌝ }
 {
     Answer {
@@ -41,9 +40,9 @@ pub fn place_of(f: Found) -> Place
     Place::Nothing
 }
 
-// Which refusal is due: 9, by the lent places; 1; 6, of the floor handed in; 8.
-pub fn judge(room: usize, size: f64, cells: usize, question: Question) -> u8
-    ensures { λ r. ⌜ r ≡ refuseAsk room size cells (asked question) ⌝ }
+// Which refusal is due: 9, by the lent places; 1; 6, of the floor handed in; 8, where `bad` says that a query number is.
+pub fn judge(room: usize, size: f64, cells: usize, bad: bool) -> u8
+    ensures { λ r. ⌜ r ≡ refuseFloor room size cells bad ⌝ }
 {
     if room < 1024 {
         return 9;
@@ -54,7 +53,7 @@ pub fn judge(room: usize, size: f64, cells: usize, question: Question) -> u8
     if 1024 < cells {
         return 6;
     }
-    if bad_question(question) {
+    if bad {
         return 8;
     }
     0
@@ -65,7 +64,7 @@ pub fn ask(floor: Floor, cells: &[u64], question: Question) -> Answer
     ensures { λ r. ⌜ Asked floor (now (cells .entry)) question r ⌝ }
 {
     let n = floor.cells;
-    let number = judge(cells.len(), floor.size, n, question);
+    let number = judge(cells.len(), floor.size, n, bad_question(question));
     if number != 0 {
         return refused(number);
     }

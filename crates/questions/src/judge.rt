@@ -1,4 +1,5 @@
 // Refusal 8: a query number outside its bounds or not finite.
+use crate::numbered::Numbered;
 use plane::point::Point;
 use question::search::Question;
 ghost use mathlib.Core.Bool.{_||_};
@@ -6,6 +7,7 @@ ghost use mathlib.Core.Path.{_≡_};
 ghost use Rattle.model.specs.Refusal.{badLength, badNumber, badPoint, badQuestion};
 ghost use Rattle.plane.specs.Values.{pt};
 ghost use Rattle.question.specs.Question.{asked};
+ghost use Rattle.questions.specs.Numbered.{badNumbered};
 
 // Not within 2 ^ 40 either way; a NaN is not.
 fn bad_number(z: f64) -> bool
@@ -54,5 +56,15 @@ pub fn bad_question(question: Question) -> bool
         Question::Square(p, width) => bad_disc(p, width),
         Question::Circle(p, radius) => bad_disc(p, radius),
         Question::Sweep(p0, p1, width) => bad_point(p0) || bad_disc(p1, width),
+    }
+}
+
+// A number that names no shape is outside its bounds.
+pub fn bad_numbered(numbered: Numbered) -> bool
+    ensures { λ r. ⌜ r ≡ badNumbered numbered ⌝ }
+{
+    match numbered {
+        Numbered::Unknown => true,
+        Numbered::Known(question) => bad_question(question),
     }
 }

@@ -4,18 +4,27 @@ use question::search::Question;
 ghost use mathlib.Core.Path.{_≡_};
 ghost use Rattle.questions.specs.Numbered.{questionOf};
 
-// 1 is a square, 2 a circle, 3 a sweep, any other number a point.
-pub fn question_of(shape: u8, p: Point, q: Point, extent: f64) -> Question
+// A number names a shape, and so a question, or none.
+pub enum Numbered {
+    Unknown,
+    Known(Question),
+}
+
+// 0 is a point, 1 a square, 2 a circle, 3 a sweep.
+pub fn question_of(shape: u8, p: Point, q: Point, extent: f64) -> Numbered
     ensures { λ r. ⌜ r ≡ questionOf shape p q extent ⌝ }
 {
+    if shape == 0 {
+        return Numbered::Known(Question::Point(p));
+    }
     if shape == 1 {
-        return Question::Square(p, extent);
+        return Numbered::Known(Question::Square(p, extent));
     }
     if shape == 2 {
-        return Question::Circle(p, extent);
+        return Numbered::Known(Question::Circle(p, extent));
     }
     if shape == 3 {
-        return Question::Sweep(p, q, extent);
+        return Numbered::Known(Question::Sweep(p, q, extent));
     }
-    Question::Point(p)
+    Numbered::Unknown
 }

@@ -1,21 +1,38 @@
 -- `runcedau_floor_ask` is the refusal's number, the found cell's key, or 0. Assumes nothing.
 use native.Mathlib.Omega.{arith}
-use mathlib.Core.Path.{sym, ap, _∙_}
+use mathlib.Core.Path.{_≡_, sym, ap, subst, _∙_}
 use lib.ListN.{length}
 use lib.Seq.{length-take-le}
 use borrow.Author.Needs.{needs}
-use Rattle.model.specs.Shape.{ask}
-use Rattle.questions.specs.Ask.{refuseAsk}
+use Rattle.model.specs.Refusal.{badQuestion}
+use Rattle.questions.specs.Ask.{refuseAsk, refuseFloor}
+use Rattle.questions.specs.declared.numbered.Numbered.{Numbered}
 use Rattle.question.specs.Question.{asked}
 use Rattle.question.specs.declared.search.Question.{Question}
 use Rattle.questions.proofs.AskLaws.{ask-fits}
-use Rattle.grid_c.specs.Told.{told}
+use Rattle.grid_c.specs.Told.{Tells}
 use Rattle.grid_c.proofs.ToldLaws.{told-found, told-refused}
 use Rattle.grid_c.proofs.runcedau_floor_ask.Statement.{statement}
 use Rattle.grid_c.proofs.runcedau_floor_ask.Tie as tie
 
+-- the number that was judged, and the question that the shape's number names
+abbrev start : tie.After-judge2 → tie.Start
+start j = j .before .before .before .before .before .before .before
+
+abbrev known : tie.After-judge2 → Question
+known j = j .before .before .before .numbered .given .0 .0
+
+number : (j : tie.After-judge2) → let a = start j .args in j .judge2 .result ≡ refuseAsk (length (a .cells .now)) (a .size) (a .count) (asked (known j))
+number j = let a = start j .args in j .judge2 .ensures ∙ ap (refuseFloor (length (a .cells .now)) (a .size) (a .count)) (j .before .bad-question .ensures)
+
 question-of-requires : tie.Need-question-of-requires
 question-of-requires c κs = search needs
+
+enum-known-numbered : tie.Need-enum-known-numbered
+enum-known-numbered c = search needs
+
+enum-told : tie.Need-enum-told
+enum-told c = search needs
 
 judge-requires : tie.Need-judge-requires
 judge-requires c κs = search needs
@@ -25,40 +42,61 @@ cast-result c = search needs
 
 returns : tie.Need-returns
 returns c =
-    let j = c .before in
-    let m = j .before in
+    let u = c .before in
+    let m = u .before .before in
     let a = m .before .before .args in
-    λ C h. told-refused (a .size) (a .cells .now) (a .count) (asked (m .question-of .result)) C h (j .judge .result) (c .if1 .taken) (j .judge .ensures)
-    ∙ ap (λ (q : Question). told (refuseAsk (length (a .cells .now)) (a .size) (a .count) (asked q)) (ask (a .size) C (asked q))) (m .question-of .ensures)
+    subst (λ (n : Numbered). Tells (a .cells .now) (a .size) (a .count) n (c .judge .result)) (sym (u .enum-told .given .1) ∙ m .question-of .ensures) (c .judge .ensures)
+
+bad-question-requires : tie.Need-bad-question-requires
+bad-question-requires c κs = search needs
+
+judge-requires-2 : tie.Need-judge-requires-2
+judge-requires-2 c κs = search needs
+
+cast-result-2 : tie.Need-cast-result-2
+cast-result-2 c = search needs
+
+returns-2 : tie.Need-returns-2
+returns-2 c =
+    let j = c .before in
+    let a = start j .args in
+    let w = j .before .before .before in
+    subst (λ (n : Numbered). Tells (a .cells .now) (a .size) (a .count) n (j .judge2 .result)) (sym (w .numbered .given .1) ∙ w .before .before .question-of .ensures)
+    (told-refused (a .cells .now) (a .size) (a .count) (asked (known j)) (j .judge2 .result) (c .if1 .taken) (number j))
 
 slice-aggregate-search : tie.Need-slice-aggregate-search
 slice-aggregate-search c =
-    let j = c .before .before in
-    let m = j .before in
-    let a = m .before .before .args in
-    let f = ask-fits (length (a .cells .now)) (a .size) (a .count) (asked (m .question-of .result)) (sym (j .judge .ensures) ∙ c .before .if1 .left) in
+    let e = c .before in
+    let a = start (e .before) .args in
+    let f = ask-fits (length (a .cells .now)) (a .size) (a .count) (badQuestion (asked (known (e .before)))) (sym (number (e .before)) ∙ e .if1 .left) in
     sym (length-take-le (a .count) (a .cells .now) (omega arith))
 
 search-requires : tie.Need-search-requires
 search-requires c κs = search needs
 
-returns-2 : tie.Need-returns-2
-returns-2 c =
+returns-3 : tie.Need-returns-3
+returns-3 c =
     let e = c .before .before in
     let j = e .before in
-    let m = j .before in
-    let a = m .before .before .args in
-    λ C h. told-found (a .size) (a .cells .now) (a .count) (asked (m .question-of .result)) C h (c .search .result) (sym (e .if1 .left) ∙ j .judge .ensures) (c .search .ensures)
-    ∙ ap (λ (q : Question). told (refuseAsk (length (a .cells .now)) (a .size) (a .count) (asked q)) (ask (a .size) C (asked q))) (m .question-of .ensures)
+    let a = start j .args in
+    let w = j .before .before .before in
+    subst (λ (n : Numbered). Tells (a .cells .now) (a .size) (a .count) n (c .search .result .key)) (sym (w .numbered .given .1) ∙ w .before .before .question-of .ensures)
+    (told-found (a .cells .now) (a .size) (a .count) (asked (known j)) (c .search .result) (sym (e .if1 .left) ∙ number j) (c .search .ensures))
 
 pub runcedau-floor-ask-spec : {M : Type 1} → statement M
 runcedau-floor-ask-spec =
     tie.close
     (tie.spec
     question-of-requires
+    enum-known-numbered
+    enum-told
     judge-requires
     cast-result
     returns
+    bad-question-requires
+    judge-requires-2
+    cast-result-2
+    returns-2
     slice-aggregate-search
     search-requires
-    returns-2)
+    returns-3)

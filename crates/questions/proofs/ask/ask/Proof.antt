@@ -1,13 +1,24 @@
 -- `ask::ask`: the refusal that is due, or what the search finds. Assumes nothing.
 use native.Mathlib.Omega.{arith}
-use mathlib.Core.Path.{refl, sym, _∙_}
+use mathlib.Core.Path.{_≡_, refl, sym, ap, _∙_}
 use lib.ListN.{length}
 use lib.Seq.{length-take-le}
 use borrow.Author.Needs.{needs}
+use Rattle.model.specs.Refusal.{badQuestion}
 use Rattle.question.specs.Question.{asked}
+use Rattle.questions.specs.Ask.{refuseAsk, refuseFloor}
 use Rattle.questions.proofs.AskLaws.{ask-answered, ask-fits, ask-refused}
 use Rattle.questions.proofs.ask.ask.Statement.{statement}
 use Rattle.questions.proofs.ask.ask.Tie as tie
+
+abbrev start : tie.After-judge → tie.Start
+start j = j .before .before .before
+
+due : (j : tie.After-judge) → let a = start j .args in j .judge .result ≡ refuseAsk (length (a .cells .now)) (a .floor .size) (a .floor .cells) (asked (a .question))
+due j = let a = start j .args in j .judge .ensures ∙ ap (refuseFloor (length (a .cells .now)) (a .floor .size) (a .floor .cells)) (j .before .bad-question .ensures)
+
+bad-question-requires : tie.Need-bad-question-requires
+bad-question-requires c κs = search needs
 
 judge-requires : tie.Need-judge-requires
 judge-requires c κs = search needs
@@ -18,14 +29,14 @@ refused-requires c κs = search needs
 returns : tie.Need-returns
 returns c =
     let j = c .before .before in
-    let a = j .before .before .args in
-    ask-refused (a .floor) (a .cells .now) (a .question) (c .refused .result) (j .judge .result) (c .before .if1 .taken) (j .judge .ensures) (c .refused .ensures)
+    let a = start j .args in
+    ask-refused (a .floor) (a .cells .now) (a .question) (c .refused .result) (j .judge .result) (c .before .if1 .taken) (due j) (c .refused .ensures)
 
 slice-aggregate-search : tie.Need-slice-aggregate-search
 slice-aggregate-search c =
     let j = c .before .before in
-    let a = j .before .before .args in
-    let f = ask-fits (length (a .cells .now)) (a .floor .size) (a .floor .cells) (asked (a .question)) (sym (j .judge .ensures) ∙ c .before .if1 .left) in
+    let a = start j .args in
+    let f = ask-fits (length (a .cells .now)) (a .floor .size) (a .floor .cells) (badQuestion (asked (a .question))) (sym (due j) ∙ c .before .if1 .left) in
     sym (length-take-le (a .floor .cells) (a .cells .now) (omega arith))
 
 search-requires : tie.Need-search-requires
@@ -38,13 +49,14 @@ returns-2 : tie.Need-returns-2
 returns-2 c =
     let s = c .before in
     let j = s .before .before .before in
-    let a = j .before .before .args in
-    ask-answered (a .floor) (a .cells .now) (a .question) _ (s .search .result) (sym (s .before .before .if1 .left) ∙ j .judge .ensures) refl (c .place-of .ensures) (s .search .ensures)
+    let a = start j .args in
+    ask-answered (a .floor) (a .cells .now) (a .question) _ (s .search .result) (sym (s .before .before .if1 .left) ∙ due j) refl (c .place-of .ensures) (s .search .ensures)
 
 pub ask-spec : {M : Type 1} → statement M
 ask-spec =
     tie.close
     (tie.spec
+    bad-question-requires
     judge-requires
     refused-requires
     returns

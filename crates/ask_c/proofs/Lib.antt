@@ -1,0 +1,2 @@
+-- The laws of crate `ask_c`.
+pub mod Determinate
