@@ -23,7 +23,7 @@ use Rattle.grid.proofs.RefuseLaws.{Passed, change-early, change-passed,
 
 module _ (floor : Floor) (b : List ℤ) (t t′ : Lent) (r : Changed) where
   abbrev with-crowd : Bool → ℕ
-  with-crowd v = refuseChange (shortFor t) (floor .size) (entries b) v
+  with-crowd v = refuseChange (shortFor t) (floor .size) b v
 
   abbrev early : ℕ
   early = with-crowd (ltb maxCells (floor .cells))
@@ -43,7 +43,7 @@ module _ (floor : Floor) (b : List ℤ) (t t′ : Lent) (r : Changed) where
     input = λ n z. f ∙ ap refusedWith (e ∙ z);
     refusal = λ C h.
         let x : early ≡ with-crowd false = ap with-crowd (calm C h) in
-        number m f ∙ e ∙ x ∙ sym (change-early (shortFor t) (floor .size) (entries b) (ltb maxCells (length (after C))) (λ z. some (e ∙ x ∙ z)));
+        number m f ∙ e ∙ x ∙ sym (change-early (shortFor t) (floor .size) b (ltb maxCells (length (after C))) (λ z. some (e ∙ x ∙ z)));
     refused = λ n z. (w, f ∙ ap refusedWith (sym (number m f) ∙ z));
     done = λ C h z. absurd (some (sym (number m f) ∙ z));
   }
@@ -52,8 +52,8 @@ module _ (floor : Floor) (b : List ℤ) (t t′ : Lent) (r : Changed) where
   module _ (e : 0 ≡ early) (k : ℕ)
       (count : AscL 0 (take (floor .cells) (t .cells)) → unsorted (entries b) ≡ false → outside (entries b) ≡ false → k ≡ length (after (take (floor .cells) (t .cells))))
     where
-      passed : Passed (shortFor t) (floor .size) (entries b) (ltb maxCells (floor .cells))
-      passed = change-passed (shortFor t) (floor .size) (entries b) (ltb maxCells (floor .cells)) (sym e)
+      passed : Passed (shortFor t) (floor .size) b (ltb maxCells (floor .cells))
+      passed = change-passed (shortFor t) (floor .size) b (ltb maxCells (floor .cells)) (sym e)
 
       counted : (C : List ℕ) → Holds (t .cells) (floor .cells) C → k ≡ length (after C)
       counted C h =

@@ -5,12 +5,13 @@ use mathlib.Core.Path.{_≡_, refl, sym, ap, _∙_}
 use mathlib.Core.Bool.{Bool, true, false, cond, _||_, or-false, true≢false}
 use mathlib.Core.List.{List}
 use lib.Dec.{ltb}
+use lib.IntN.{ℤ}
 use lib.ListN.{length}
 use lib.Ieee.{Float}
 use borrow.Author.Tests.{lt-ltb, le-ltb, ltb-false}
-use Rattle.model.specs.Map.{Entry}
 use Rattle.model.specs.Refusal.{firstOf, verdict, short, badSize, unsorted, outside}
-use Rattle.limits.specs.Batches.{refuseBatch}
+use Rattle.limits.specs.Batches.{disorder, entries, ragged, refuseBatch}
+use Rattle.limits.proofs.EntryLaws.{or-parts}
 use Rattle.grid.specs.Change.{refuseChange, shortOf}
 
 -- ---- 9: the first table that is short
@@ -54,11 +55,11 @@ module _ (a b c d e : ℕ) where
 
 -- ---- all of them, in turn
 abbrev batchThen : Bool → Bool → Bool → ℕ → ℕ
-batchThen long disorder outside n = cond long 3 (cond disorder 4 (cond outside 5 n))
+batchThen x y z n = cond x 3 (cond y 4 (cond z 5 n))
 
-module _ (s : Bool) (c : Float) (l : List Entry) (w : Bool) where
+module _ (s : Bool) (c : Float) (l : List ℤ) (w : Bool) where
   abbrev rest : ℕ → ℕ
-  rest = batchThen (ltb 256 (length l)) (unsorted l) (outside l)
+  rest = batchThen (ltb 256 (length (entries l))) (disorder l) (outside (entries l))
 
   in-turn : refuseChange s c l w ≡ cond s 9 (cond (badSize c) 1 (rest (cond w 6 0)))
   unfolding refuseChange verdict firstOf
@@ -80,7 +81,7 @@ module _ (s : Bool) (c : Float) (l : List Entry) (w : Bool) where
       known = in-turn ∙ rw (e, f) refl
 
       pub change-batch : (n : ℕ) → n ≡ refuseBatch l → (n ≡ 0 → ⊥) → n ≡ refuseChange s c l w
-      change-batch n g some = g ∙ batch-turn ∙ go (ltb 256 (length l)) (unsorted l) (outside l) (λ z. some (g ∙ batch-turn ∙ z)) ∙ sym known
+      change-batch n g some = g ∙ batch-turn ∙ go (ltb 256 (length (entries l))) (disorder l) (outside (entries l)) (λ z. some (g ∙ batch-turn ∙ z)) ∙ sym known
         where
           go : (x y z : Bool) → (batchThen x y z 0 ≡ 0 → ⊥) → batchThen x y z 0 ≡ batchThen x y z (cond w 6 0)
           go true y z h = refl
@@ -90,7 +91,7 @@ module _ (s : Bool) (c : Float) (l : List Entry) (w : Bool) where
 
       -- 6 where there are too many cells, else 0
       pub change-last : (n : ℕ) → n ≡ refuseBatch l → n ≡ 0 → cond w 6 0 ≡ refuseChange s c l w
-      change-last n g z = go (ltb 256 (length l)) (unsorted l) (outside l) (sym batch-turn ∙ sym g ∙ z) ∙ sym known
+      change-last n g z = go (ltb 256 (length (entries l))) (disorder l) (outside (entries l)) (sym batch-turn ∙ sym g ∙ z) ∙ sym known
         where
           go : (x y v : Bool) → batchThen x y v 0 ≡ 0 → _≡_ {A = ℕ} (cond w 6 0) (batchThen x y v (cond w 6 0))
           go true y v h = absurd (suc-ne-zero _ h)
@@ -99,29 +100,29 @@ module _ (s : Bool) (c : Float) (l : List Entry) (w : Bool) where
           go false false false h = refl
 
 -- what is not refused by the input alone: nothing is due but, with another number of cells, 6
-pub record Passed (s : Bool) (c : Float) (l : List Entry) (w : Bool) : Type 0 where
+pub record Passed (s : Bool) (c : Float) (l : List ℤ) (w : Bool) : Type 0 where
   pub long : s ≡ false
-  pub few : length l ≤ 256
-  pub order : unsorted l ≡ false
-  pub bounds : outside l ≡ false
+  pub few : length (entries l) ≤ 256
+  pub order : unsorted (entries l) ≡ false
+  pub bounds : outside (entries l) ≡ false
   pub crowd : w ≡ false
   pub later : (v : Bool) → refuseChange s c l v ≡ cond v 6 0
 
-pub change-passed : (s : Bool) (c : Float) (l : List Entry) (w : Bool) → refuseChange s c l w ≡ 0 → Passed s c l w
-change-passed s c l w z = go s (badSize c) (ltb 256 (length l)) (unsorted l) (outside l) w refl refl refl refl refl refl (sym (in-turn s c l w) ∙ z)
+pub change-passed : (s : Bool) (c : Float) (l : List ℤ) (w : Bool) → refuseChange s c l w ≡ 0 → Passed s c l w
+change-passed s c l w z = go s (badSize c) (ltb 256 (length (entries l))) (disorder l) (outside (entries l)) w refl refl refl refl refl refl (sym (in-turn s c l w) ∙ z)
   where
-    go : (a b x y v u : Bool) → s ≡ a → badSize c ≡ b → ltb 256 (length l) ≡ x → unsorted l ≡ y → outside l ≡ v → w ≡ u → _≡_ {A = ℕ} (cond a 9 (cond b 1 (batchThen x y v (cond u 6 0)))) 0 → Passed s c l w
+    go : (a b x y v u : Bool) → s ≡ a → badSize c ≡ b → ltb 256 (length (entries l)) ≡ x → disorder l ≡ y → outside (entries l) ≡ v → w ≡ u → _≡_ {A = ℕ} (cond a 9 (cond b 1 (batchThen x y v (cond u 6 0)))) 0 → Passed s c l w
     go true b x y v u p q r o t i h = absurd (suc-ne-zero _ h)
     go false true x y v u p q r o t i h = absurd (suc-ne-zero _ h)
     go false false true y v u p q r o t i h = absurd (suc-ne-zero _ h)
     go false false false true v u p q r o t i h = absurd (suc-ne-zero _ h)
     go false false false false true u p q r o t i h = absurd (suc-ne-zero _ h)
     go false false false false false true p q r o t i h = absurd (suc-ne-zero _ h)
-    go false false false false false false p q r o t i h = record { long = p; few = ltb-false 256 (length l) r; order = o; bounds = t; crowd = i; later = λ n. in-turn s c l n ∙ rw (p, q, r, o, t) refl }
+    go false false false false false false p q r o t i h = record { long = p; few = ltb-false 256 (length (entries l)) r; order = or-parts (ragged l) (unsorted (entries l)) o .1; bounds = t; crowd = i; later = λ n. in-turn s c l n ∙ rw (p, q, r, o, t) refl }
 
 -- a refusal that is due before the cells are counted is due whatever they come to
-pub change-early : (s : Bool) (c : Float) (l : List Entry) (v : Bool) → (refuseChange s c l false ≡ 0 → ⊥) → refuseChange s c l v ≡ refuseChange s c l false
-change-early s c l v some = in-turn s c l v ∙ go s (badSize c) (ltb 256 (length l)) (unsorted l) (outside l) (λ z. some (in-turn s c l false ∙ z)) ∙ sym (in-turn s c l false)
+pub change-early : (s : Bool) (c : Float) (l : List ℤ) (v : Bool) → (refuseChange s c l false ≡ 0 → ⊥) → refuseChange s c l v ≡ refuseChange s c l false
+change-early s c l v some = in-turn s c l v ∙ go s (badSize c) (ltb 256 (length (entries l))) (disorder l) (outside (entries l)) (λ z. some (in-turn s c l false ∙ z)) ∙ sym (in-turn s c l false)
   where
     go : (a b x y u : Bool) → (_≡_ {A = ℕ} (cond a 9 (cond b 1 (batchThen x y u 0))) 0 → ⊥) → _≡_ {A = ℕ} (cond a 9 (cond b 1 (batchThen x y u (cond v 6 0)))) (cond a 9 (cond b 1 (batchThen x y u 0)))
     go true b x y u h = refl

@@ -1,6 +1,7 @@
 -- A batch on a floor, whole: its refusals, its answer, and every lent table afterwards. Definitions only.
 use Prim.Native.Nat.{ℕ, suc, _≤_}
 use mathlib.Core.Path.{_≡_}
+use mathlib.Core.Logic.{_⊎_}
 use mathlib.Core.Bool.{Bool, false}
 use mathlib.Core.List.{List, [], _∷_, _++_}
 use lib.Dec.{ltb}
@@ -16,7 +17,7 @@ use Rattle.corner.specs.Changes.{numbered}
 use Rattle.table.specs.Listed.{Listed}
 use Rattle.table.specs.Tables.{pad}
 use Rattle.floor.specs.Floor.{Holds}
-use Rattle.limits.specs.Batches.{entries, flags}
+use Rattle.limits.specs.Batches.{disorder, entries, flags}
 use Rattle.grid.specs.declared.change.Changed.{Changed}
 use Rattle.floor.specs.declared.floor.Floor.{Floor}
 
@@ -36,21 +37,25 @@ shortOf cells confirmed full corners statuses =
 abbrev pub shortFor : Lent → Bool
 shortFor t = shortOf (length (t .cells)) (length (t .confirmed)) (length (t .full)) (length (t .corners)) (length (t .statuses))
 
--- the model's refusals of a batch (`judge`), for a floor of which no layer is asked: whether a table is short, the cell size, the batch, whether there are too many cells
-unfoldable pub refuseChange : Bool → Float → List Entry → Bool → ℕ
-refuseChange lent c l crowded =
+-- the model's refusals of a batch (`judge`), for a floor of which no layer is asked: whether a table is short, the cell size, the batch as it is handed in, whether there are too many cells
+unfoldable pub refuseChange : Bool → Float → List ℤ → Bool → ℕ
+refuseChange lent c b crowded =
     verdict
     (record {
       short = lent;
       size = badSize c;
       radius = false;
-      long = ltb maxBatch (length l);
-      disorder = unsorted l;
-      outside = outside l;
+      long = ltb maxBatch (length (entries b));
+      disorder = disorder b;
+      outside = outside (entries b);
       cells = crowded;
       points = false;
       query = false;
     })
+
+-- what the input alone decides, the number of cells handed in among it; 0 for nothing
+abbrev pub refuseInput : Floor → List ℤ → Lent → ℕ
+refuseInput floor b t = refuseChange (shortFor t) (floor .size) b (ltb maxCells (floor .cells))
 
 -- a refused call answers its number, and all else is zero
 abbrev pub refusedWith : ℕ → Changed
@@ -76,8 +81,11 @@ pub record Applying (t : List ℕ) (n : ℕ) (C : List ℕ) (l : List Entry) (c 
 
 -- ---- the call. A floor whose table holds no cells so (no call gives one) may only be refused, or changed in a way that is not promised
 pub record Changing (floor : Floor) (b : List ℤ) (t t′ : Lent) (r : Changed) : Type 0 where
-  -- what the input alone decides, the number of cells handed in among it
-  pub input : (n : ℕ) → refuseChange (shortFor t) (floor .size) (entries b) (ltb maxCells (floor .cells)) ≡ suc n → r ≡ refusedWith (suc n)
-  pub refusal : (C : List ℕ) → Holds (t .cells) (floor .cells) C → r .refusal ≡ refuseChange (shortFor t) (floor .size) (entries b) (ltb maxCells (length (cellsAfter (toBatch (entries b)) C)))
+  pub input : (n : ℕ) → refuseInput floor b t ≡ suc n → r ≡ refusedWith (suc n)
+  pub refusal : (C : List ℕ) → Holds (t .cells) (floor .cells) C → r .refusal ≡ refuseChange (shortFor t) (floor .size) b (ltb maxCells (length (cellsAfter (toBatch (entries b)) C)))
   pub refused : (n : ℕ) → r .refusal ≡ suc n → (t′ ≡ t) × (r ≡ refusedWith (suc n))
   pub done : (C : List ℕ) → Holds (t .cells) (floor .cells) C → r .refusal ≡ 0 → Done floor C (entries b) t t′ r
+
+-- the calls that the record above decides whole: of a floor that holds its cells, and any that the input alone refuses
+abbrev pub Decided : Floor → List ℤ → Lent → Type 0
+Decided floor b t = ((C : List ℕ) × Holds (t .cells) (floor .cells) C) ⊎ ((n : ℕ) × (refuseInput floor b t ≡ suc n))

@@ -59,7 +59,7 @@ fn is_short(cells: usize, confirmed: usize, full: usize, corners: usize, statuse
 
 // The refusals that the input alone decides: 9; 1; 3, 4 and 5; 6, of the floor handed in.
 fn judge(short: bool, size: f64, cells: usize, batch: &[i64]) -> u8
-    ensures { λ r. ⌜ r ≡ refuseChange short size (entries (now (batch .entry))) (ltb maxCells cells) ⌝ }
+    ensures { λ r. ⌜ r ≡ refuseChange short size (now (batch .entry)) (ltb maxCells cells) ⌝ }
 {
     if short {
         return 9;

@@ -1,19 +1,19 @@
 -- A flat batch as its entries, and the two judgements an entry at a time. Assumes nothing.
-use Prim.Native.Nat.{ℕ, _+_, _-_, _*_, _/_, _≤_, _<_}
+use Prim.Native.Nat.{ℕ, _+_, _-_, _*_, _/_, _%_, _≤_, _<_}
 use native.Mathlib.Nat.{add-zero, le-of-suc-le-suc, not-suc-le-zero}
 use native.Mathlib.Omega.{arith}
 use mathlib.Core.Path.{_≡_, refl, ap, _∙_}
-use mathlib.Core.Bool.{Bool, false, not, cond, _&&_, _||_}
+use mathlib.Core.Bool.{Bool, true, false, not, cond, _&&_, _||_, true≢false}
 use mathlib.Core.List.{List, [], _∷_}
 use lib.IntN.{ℤ, pos}
 use lib.Signed.{leZ, ltZ}
 use lib.ListN.{length, drop, getD, length-drop}
 use lib.Seq.{getD-drop, drop-drop}
-use borrow.Author.Tests.{lt-ltb, le-ltb}
+use borrow.Author.Tests.{lt-ltb, le-ltb, eq-eqb, ne-eqb}
 use Rattle.model.specs.Limits.{maxCoordinate}
 use Rattle.model.specs.Map.{Entry}
 use Rattle.model.specs.Refusal.{firstOf, offMap, outside, unsorted}
-use Rattle.limits.specs.Batches.{entries, isFull, refuseBatch}
+use Rattle.limits.specs.Batches.{entries, isFull, ragged, refuseBatch}
 
 -- the number at a place, and the entry
 abbrev pub item : List ℤ → ℕ → ℤ
@@ -79,10 +79,27 @@ unfolding outside
 outside-end b i h = rw (entries-end b i h)
 
 -- ---- 3, 4 and 5
-pub refuse-long : (b : List ℤ) → 256 < length b / 3 → refuseBatch (entries b) ≡ 3
+pub ragged-is : (b : List ℤ) → (length b % 3 ≡ 0 → ⊥) → ragged b ≡ true
+unfolding ragged
+ragged-is b h = rw (ne-eqb (length b % 3) 0 h) refl
+
+pub whole-is : (b : List ℤ) → length b % 3 ≡ 0 → ragged b ≡ false
+unfolding ragged
+whole-is b h = rw (eq-eqb (length b % 3) 0 h) refl
+
+pub refuse-long : (b : List ℤ) → 256 < length b / 3 → refuseBatch b ≡ 3
 unfolding refuseBatch firstOf
 refuse-long b h = rw (entries-length b, lt-ltb 256 (length b / 3) h)
 
-pub refuse-short : (b : List ℤ) (d o : Bool) → length b / 3 ≤ 256 → d ≡ unsorted (entries b) → o ≡ outside (entries b) → refuseBatch (entries b) ≡ cond d 4 (cond o 5 0)
+pub refuse-ragged : (b : List ℤ) → length b / 3 ≤ 256 → (length b % 3 ≡ 0 → ⊥) → refuseBatch b ≡ 4
 unfolding refuseBatch firstOf
-refuse-short b d o h p q = rw (entries-length b, le-ltb 256 (length b / 3) h, p, q)
+refuse-ragged b h g = rw (entries-length b, le-ltb 256 (length b / 3) h, ragged-is b g)
+
+pub refuse-short : (b : List ℤ) (d o : Bool) → length b / 3 ≤ 256 → length b % 3 ≡ 0 → d ≡ unsorted (entries b) → o ≡ outside (entries b) → refuseBatch b ≡ cond d 4 (cond o 5 0)
+unfolding refuseBatch firstOf
+refuse-short b d o h g p q = rw (entries-length b, le-ltb 256 (length b / 3) h, whole-is b g, p, q)
+
+-- where neither of two checks is due
+pub or-parts : (x y : Bool) → x || y ≡ false → (x ≡ false) × (y ≡ false)
+or-parts true y h = absurd (true≢false h)
+or-parts false y h = (refl, h)

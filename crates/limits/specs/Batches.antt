@@ -1,9 +1,9 @@
 -- A batch as it is handed in, its confirmed changes as they are listed, and what such a list does to a table. Definitions only.
-use Prim.Native.Nat.{ℕ, zero, suc, _≤_}
+use Prim.Native.Nat.{ℕ, zero, suc, _%_, _≤_}
 use mathlib.Core.Path.{_≡_}
-use mathlib.Core.Bool.{Bool, true, false, not, cond, Bool·beq}
+use mathlib.Core.Bool.{Bool, true, false, not, cond, _||_, Bool·beq}
 use mathlib.Core.List.{List, [], _∷_}
-use lib.Dec.{ltb}
+use lib.Dec.{eqb, ltb}
 use lib.ListN.{length, take}
 use lib.IntN.{ℤ, pos, negsuc}
 use Rattle.model.specs.Batch.{Batch, write}
@@ -20,16 +20,24 @@ isFull (pos zero) = false
 isFull (pos (suc n)) = true
 isFull (negsuc n) = true
 
--- three numbers an entry; what is left over at the end is none
+-- three numbers an entry; a number or two at the end that are no entry make the batch ragged
 abbrev pub entries : List ℤ → List Entry
 entries [] = []
 entries (x ∷ []) = []
 entries (x ∷ y ∷ []) = []
 entries (x ∷ y ∷ o ∷ l) = record { x = x; y = y; full = isFull o } ∷ entries l
 
--- 3, 4 and 5 of the model's `judge`, in its order
-unfoldable pub refuseBatch : List Entry → ℕ
-refuseBatch l = firstOf ((3, ltb maxBatch (length l)) ∷ (4, unsorted l) ∷ (5, outside l) ∷ [])
+-- the length is no multiple of three
+unfoldable pub ragged : List ℤ → Bool
+ragged b = not (eqb (length b % 3) 0)
+
+-- 4: a batch that cannot be read is none that ascends (docs/DIFFERENCES.md)
+abbrev pub disorder : List ℤ → Bool
+disorder b = ragged b || unsorted (entries b)
+
+-- 3, 4 and 5 of the model's `judge`, in its order; and 4 of a ragged batch, of which the model has none
+unfoldable pub refuseBatch : List ℤ → ℕ
+refuseBatch b = firstOf ((3, ltb maxBatch (length (entries b))) ∷ (4, disorder b) ∷ (5, outside (entries b)) ∷ [])
 
 -- an entry on a cell that is occupied or not alters it
 abbrev pub alters : Bool → Bool → Bool

@@ -40,7 +40,7 @@ fn off_map(z: i64) -> bool
 }
 
 // 4: whether some entry does not come after the one before it. An entry is three numbers, x, y, and 0 for free
-// or any other number for occupied; what is left over at the end is none.
+// or any other number for occupied.
 fn unsorted(batch: &[i64]) -> bool
     ensures { λ r. ⌜ r ≡ unsorted (entries (now (batch .entry))) ⌝ }
 {
@@ -71,12 +71,16 @@ fn outside(batch: &[i64]) -> bool
     false
 }
 
-// 3, 4 and 5, in this order, and 0 for none.
+// 3, 4 and 5, in this order, and 0 for none. A number or two at the end that are no entry are refused with 4: an entry that
+// was handed over short is not passed over.
 pub fn refuse_batch(batch: &[i64]) -> u8
-    ensures { λ r. ⌜ r ≡ refuseBatch (entries (now (batch .entry))) ⌝ }
+    ensures { λ r. ⌜ r ≡ refuseBatch (now (batch .entry)) ⌝ }
 {
     if 256 < batch.len() / 3 {
         return 3;
+    }
+    if batch.len() % 3 != 0 {
+        return 4;
     }
     if unsorted(batch) {
         return 4;

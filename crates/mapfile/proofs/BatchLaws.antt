@@ -1,5 +1,5 @@
 -- Field 03: its entries as numbers, and a batch of them. Assumes nothing.
-use Prim.Native.Nat.{ℕ, zero, suc, _/_, _≤_}
+use Prim.Native.Nat.{ℕ, zero, suc, _/_, _%_, _≤_}
 use native.Mathlib.Omega.{arith}
 use mathlib.Core.Path.{_≡_, refl, sym, ap, _∙_, subst}
 use mathlib.Core.Bool.{false}
@@ -14,7 +14,8 @@ use Rattle.answers.proofs.PassedLaws.{or-parts}
 use Rattle.fields.specs.Fields.{Numbers, numbersOf}
 use Rattle.fields.specs.declared.head.Expected.{Expected}
 use Rattle.ieee.proofs.Tools.{lt-or-ge}
-use Rattle.limits.specs.Batches.{entries, isFull}
+use Rattle.limits.specs.Batches.{entries, isFull, ragged}
+use Rattle.limits.proofs.EntryLaws.{whole-is}
 use Rattle.model.specs.Map as map
 use Rattle.model.specs.MapFile as model
 use Rattle.model.specs.MapFile.{badFlag, entryBytes, takeBatch}
@@ -67,6 +68,14 @@ module _ (v : List ℕ) (n : ℕ) (t : List ℤ) (w : Numbers v n zeros t) (k : 
       let e : take n t ≡ numbersOf m v = ap (take n) (d .1) ∙ take-at (numbersOf m v) (drop n zeros) n l in
       ap entries e ∙ entries-are m v f
 
+  -- three to an entry, or none
+  pub front-whole : ragged (take n t) ≡ false
+  front-whole =
+      let r = room in
+      let e : length (take n t) ≡ n = sym front-long in
+      let h : n % 3 ≡ 0 = ⊎-elim (λ h. let e = w .lacking h .0 in omega arith) (λ h. let e = w .done h .0 in omega arith) (lt-or-ge (length zeros / 3) (length v / entryBytes)) in
+      whole-is (take n t) (omega (arith, e, h))
+
 -- ---- the outputs that are lent have just their needs
 abbrev pub lending : Tables → Lent
 lending t = record { tables = t; confirmed = replicate {A = ℕ} 256 0; full = replicate {A = ℕ} 256 0; corners = replicate {A = ℕ} 2304 0; altered = replicate {A = ℕ} 2304 0 }
@@ -84,14 +93,14 @@ stepped : (o : map.Op) (M : map.Map) → refusal o M ≡ 0 → step o M ≡ map.
 unfolding refusal step
 stepped o M z = ap (λ (n : ℕ). unless n (map.next o M) M) z
 
-module _ (r : Reader) (v : List ℕ) (used : ℕ) (b : List ℤ) (t : Tables) (u : Lent) (g : Changed) (w : Changing (r .map) b (lending t) u g) (is : entries b ≡ model.entries (length v / entryBytes) v) where
+module _ (r : Reader) (v : List ℕ) (used : ℕ) (b : List ℤ) (t : Tables) (u : Lent) (g : Changed) (w : Changing (r .map) b (lending t) u g) (whole : ragged b ≡ false) (is : entries b ≡ model.entries (length v / entryBytes) v) where
   o : map.Op
   o = map.batch (model.entries (length v / entryBytes) v)
 
   number : (R : model.Reader) → short (needs t) ≡ false → HoldsReader r t R → R .expected ≡ model.batches → g .refusal ≡ refusal o (R .map)
   unfolding o
   number R s h x =
-      w .refusal (R .map) (holds-at model.batches r t R h x) ∙ enough (lentNeeds (lending t)) (lending-short t ∙ s) (entries b) (R .map)
+      w .refusal whole (R .map) (holds-at model.batches r t R h x) ∙ enough (lentNeeds (lending t)) (lending-short t ∙ s) (entries b) (R .map)
       ∙ ap (λ (l : List map.Entry). refusal (map.batch l) (R .map)) is
 
   pub batch-refused : (g .refusal ≡ 0 → ⊥) → Took model.batches takeBatch r v used t (u .tables) (Reading.Refused (g .refusal) (r .field))

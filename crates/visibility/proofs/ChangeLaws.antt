@@ -3,7 +3,7 @@ use Prim.Native.Nat.{ℕ, suc, _≤_, _<_}
 use native.Mathlib.Nat.{suc-ne-zero}
 use native.Mathlib.Omega.{arith}
 use mathlib.Core.Path.{_≡_, refl, sym, ap, _∙_, subst}
-use mathlib.Core.Logic.{_⊎_, ⊎-elim}
+use mathlib.Core.Logic.{_⊎_, ⊎-elim, inl, inr}
 use mathlib.Core.Bool.{Bool, true, false, cond, _||_, or-assoc, or-false, or-true}
 use mathlib.Core.List.{List, [], _∷_, _++_}
 use lib.Dec.{ltb}
@@ -12,7 +12,8 @@ use lib.ListN.{length, take}
 use borrow.Author.Tests.{lt-ltb, le-ltb, ltb-false}
 use Rattle.floor.proofs.FloorLaws.{holds-cells}
 use Rattle.floor.specs.Floor as floor
-use Rattle.limits.specs.Batches.{entries}
+use Rattle.limits.specs.Batches.{entries, ragged}
+use Rattle.limits.proofs.EntryLaws.{or-parts}
 use Rattle.model.proofs.RunLaws.{passed}
 use Rattle.model.specs.Batch.{cellsAfter}
 use Rattle.model.specs.Limits.{maxBatch, maxCells, maxPoints}
@@ -42,41 +43,41 @@ short-either k l x y s p q w = ⊎-elim (λ z. z .1 ∙ sym (known true (z .0) �
 
 -- ---- what is due
 -- a refusal that is due before cells and points are counted is due whatever they come to
-due-early : (s : Bool) (m : Map) (l : List model.Entry) (w p : Bool) → (refuseBatch s m l false false ≡ 0 → ⊥) → refuseBatch s m l w p ≡ refuseBatch s m l false false
+due-early : (s : Bool) (m : Map) (l : List ℤ) (w p : Bool) → (refuseBatch s m l false false ≡ 0 → ⊥) → refuseBatch s m l w p ≡ refuseBatch s m l false false
 due-early s m l w p h =
     let none = in-turn s m l false false in
     in-turn s m l w p ∙ sym (turn-some (ofInput s m l) (cond w 6 (cond p 7 0)) (λ z. h (none ∙ z))) ∙ sym none
 
 -- what is not refused by the input alone: nothing is due but 6 and, after it, 7
-pub record Passed (s : Bool) (m : Map) (l : List model.Entry) : Type 0 where
+pub record Passed (s : Bool) (m : Map) (l : List ℤ) : Type 0 where
   pub long : s ≡ false
   pub radius : badRadius (m .size) (m .radius) ≡ false
-  pub few : length l ≤ maxBatch
-  pub order : unsorted l ≡ false
-  pub bounds : outside l ≡ false
+  pub few : length (entries l) ≤ maxBatch
+  pub order : unsorted (entries l) ≡ false
+  pub bounds : outside (entries l) ≡ false
   pub small : m .cells ≤ maxCells
   pub later : (w p : Bool) → refuseBatch s m l w p ≡ cond w 6 (cond p 7 0)
 
-pub batch-passed : (s : Bool) (m : Map) (l : List model.Entry) → refuseBatch s m l (ltb maxCells (m .cells)) false ≡ 0 → Passed s m l
+pub batch-passed : (s : Bool) (m : Map) (l : List ℤ) → refuseBatch s m l (ltb maxCells (m .cells)) false ≡ 0 → Passed s m l
 unfolding refuseBatch
 batch-passed s m l e =
     let q = passed _ e in
     record {
       long = q .short;
       radius = q .radius;
-      few = ltb-false maxBatch (length l) (q .long);
-      order = q .disorder;
+      few = ltb-false maxBatch (length (entries l)) (q .long);
+      order = or-parts (ragged l) (unsorted (entries l)) (q .disorder) .1;
       bounds = q .outside;
       small = ltb-false maxCells (m .cells) (q .cells);
       later = λ w p. in-turn s m l w p ∙ rw (q .short, q .size, q .radius, q .long, q .disorder, q .outside) refl;
     }
 
 -- ---- the model's judgement, where the tables hold its map
-module _ (m : Map) (t : Lent) (M : model.Map) (l : List model.Entry) (h : Holds m (t .tables) M) where
-  judged : judge (lentNeeds t) (model.batch l) M (model.next (model.batch l) M)
-      ≡ refuseBatch (short (lentNeeds t)) m l (ltb maxCells (length (cellsAfter (model.toBatch l) (M .cells)))) (ltb maxPoints (pointsAfter M l))
+module _ (m : Map) (t : Lent) (M : model.Map) (b : List ℤ) (w : ragged b ≡ false) (h : Holds m (t .tables) M) where
+  judged : judge (lentNeeds t) (model.batch (entries b)) M (model.next (model.batch (entries b)) M)
+      ≡ refuseBatch (short (lentNeeds t)) m b (ltb maxCells (length (cellsAfter (model.toBatch (entries b)) (M .cells)))) (ltb maxPoints (pointsAfter M (entries b)))
   unfolding judge refuseBatch
-  judged = rw (h .size, h .radius, le-ltb maxCells (length (M .cells)) (h .cells .room), le-ltb maxPoints (length (M .layer .points)) (h .layer .room), next-cells M l) refl
+  judged = rw (w, h .size, h .radius, le-ltb maxCells (length (M .cells)) (h .cells .room), le-ltb maxPoints (length (M .layer .points)) (h .layer .room), next-cells M (entries b)) refl
 
 -- ---- the call
 module _ (m : Map) (b : List ℤ) (t t′ : Lent) (r : Changed) where
@@ -87,7 +88,7 @@ module _ (m : Map) (b : List ℤ) (t t′ : Lent) (r : Changed) where
   l = entries b
 
   abbrev early : ℕ
-  early = refuseBatch s m l (ltb maxCells (m .cells)) false
+  early = refuseBatch s m b (ltb maxCells (m .cells)) false
 
   abbrev after : List ℕ → List ℕ
   after C = cellsAfter (model.toBatch l) C
@@ -99,32 +100,33 @@ module _ (m : Map) (b : List ℤ) (t t′ : Lent) (r : Changed) where
   number n f = ap (λ (a : Changed). a .refusal) f
 
   -- a refusal that is due whatever the points come to, or of a map that comes with too many
-  refuses : (n : ℕ) → (n ≡ 0 → ⊥) → r ≡ refusedWith n → t′ ≡ t → ((k : ℕ) → early ≡ suc k → n ≡ suc k)
-      → ((C : List ℕ) → HoldsCells C → (p : Bool) → (maxPoints < m .points → p ≡ true) → n ≡ refuseBatch s m l (ltb maxCells (length (after C))) p) → Changing m b t t′ r
-  refuses n some f w first due = record {
+  refuses : (n : ℕ) → (n ≡ 0 → ⊥) → r ≡ refusedWith n → t′ ≡ t → ((k : ℕ) → early ≡ suc k → n ≡ suc k) → (maxPoints < m .points → early ≡ 0 → (n ≡ 6) ⊎ (n ≡ 7))
+      → ((C : List ℕ) → HoldsCells C → (p : Bool) → (maxPoints < m .points → p ≡ true) → n ≡ refuseBatch s m b (ltb maxCells (length (after C))) p) → Changing m b t t′ r
+  refuses n some f w first over due = record {
     input = λ k z. f ∙ ap refusedWith (first k z);
+    overfull = λ g z. ⊎-elim (λ e. inl (number n f ∙ e)) (λ e. inr (number n f ∙ e)) (over g z);
     packed = λ C h g. number n f ∙ due C h true (λ y. refl);
-    refusal = λ M h. number n f ∙ due (M .cells) (h .cells) (ltb maxPoints (pointsAfter M l)) (λ g. absurd (let k = layer-few (h .layer) in omega arith)) ∙ sym (judged m t M l h);
+    refusal = λ v M h. number n f ∙ due (M .cells) (h .cells) (ltb maxPoints (pointsAfter M l)) (λ g. absurd (let k = layer-few (h .layer) in omega arith)) ∙ sym (judged m t M b v h);
     refused = λ k z. (w, f ∙ ap refusedWith (sym (number n f) ∙ z));
     done = λ M h z. absurd (some (sym (number n f) ∙ z));
   }
 
   pub early-refused : (n : ℕ) → (n ≡ 0 → ⊥) → n ≡ early → r ≡ refusedWith n → t′ ≡ t → Changing m b t t′ r
-  early-refused n some e f w = refuses n some f w (λ k z. e ∙ z) (λ C h p g. whatever C h p)
+  early-refused n some e f w = refuses n some f w (λ k z. e ∙ z) (λ g z. absurd (some (e ∙ z))) (λ C h p g. whatever C h p)
     where
       -- a map that holds its cells is not crowded itself
-      calm : (C : List ℕ) → HoldsCells C → early ≡ refuseBatch s m l false false
-      calm C h = ap (λ (v : Bool). refuseBatch s m l v false) (le-ltb maxCells (m .cells) (subst (λ (k : ℕ). k ≤ maxCells) (sym (h .count)) (h .room)))
+      calm : (C : List ℕ) → HoldsCells C → early ≡ refuseBatch s m b false false
+      calm C h = ap (λ (v : Bool). refuseBatch s m b v false) (le-ltb maxCells (m .cells) (subst (λ (k : ℕ). k ≤ maxCells) (sym (h .count)) (h .room)))
 
-      whatever : (C : List ℕ) → HoldsCells C → (p : Bool) → n ≡ refuseBatch s m l (ltb maxCells (length (after C))) p
-      whatever C h p = e ∙ calm C h ∙ sym (due-early s m l (ltb maxCells (length (after C))) p (λ z. some (e ∙ calm C h ∙ z)))
+      whatever : (C : List ℕ) → HoldsCells C → (p : Bool) → n ≡ refuseBatch s m b (ltb maxCells (length (after C))) p
+      whatever C h p = e ∙ calm C h ∙ sym (due-early s m b (ltb maxCells (length (after C))) p (λ z. some (e ∙ calm C h ∙ z)))
 
   -- past the input's refusals, k is how many cells there would be
   module _ (e : 0 ≡ early) (k : ℕ)
       (count : AscL 0 (take (m .cells) (t .tables .cells)) → unsorted l ≡ false → outside l ≡ false → k ≡ length (after (take (m .cells) (t .tables .cells))))
     where
-      past : Passed s m l
-      past = batch-passed s m l (sym e)
+      past : Passed s m b
+      past = batch-passed s m b (sym e)
 
       counted : (C : List ℕ) → HoldsCells C → k ≡ length (after C)
       counted C h =
@@ -136,7 +138,7 @@ module _ (m : Map) (b : List ℤ) (t t′ : Lent) (r : Changed) where
 
       pub crowded-refused : maxCells < k → r ≡ refusedWith 6 → t′ ≡ t → Changing m b t t′ r
       crowded-refused g f w =
-          refuses 6 (suc-ne-zero _) f w (λ n z. absurd (not-early n z))
+          refuses 6 (suc-ne-zero _) f w (λ n z. absurd (not-early n z)) (λ u z. inl refl)
           (λ C h p u. sym (past .later (ltb maxCells (length (after C))) p ∙ ap (λ (v : Bool). cond v 6 (cond p 7 0)) (lt-ltb maxCells (length (after C)) (subst (λ (n : ℕ). maxCells < n) (counted C h) g))))
 
       module _ (g : k ≤ maxCells) where
@@ -144,18 +146,19 @@ module _ (m : Map) (b : List ℤ) (t t′ : Lent) (r : Changed) where
         fits C h = subst (λ (n : ℕ). n ≤ maxCells) (counted C h) g
 
         -- where the cells fit, the points alone decide
-        points-decide : (C : List ℕ) → HoldsCells C → (p : Bool) → refuseBatch s m l (ltb maxCells (length (after C))) p ≡ cond p 7 0
+        points-decide : (C : List ℕ) → HoldsCells C → (p : Bool) → refuseBatch s m b (ltb maxCells (length (after C))) p ≡ cond p 7 0
         points-decide C h p = past .later (ltb maxCells (length (after C))) p ∙ ap (λ (v : Bool). cond v 6 (cond p 7 0)) (le-ltb maxCells (length (after C)) (fits C h))
 
         pub packed-refused : maxPoints < m .points → r ≡ refusedWith 7 → t′ ≡ t → Changing m b t t′ r
         packed-refused big f w =
-            refuses 7 (suc-ne-zero _) f w (λ n z. absurd (not-early n z)) (λ C h p u. sym (points-decide C h p ∙ ap (λ (v : Bool). cond v 7 0) (u big)))
+            refuses 7 (suc-ne-zero _) f w (λ n z. absurd (not-early n z)) (λ u z. inr refl) (λ C h p u. sym (points-decide C h p ∙ ap (λ (v : Bool). cond v 7 0) (u big)))
 
         pub updated : m .points ≤ maxPoints → Updated m l t t′ r → Changing m b t t′ r
         updated few u = record {
           input = λ n z. absurd (not-early n z);
+          overfull = λ big z. absurd (let j : m .points ≤ maxPoints = few in omega arith);
           packed = λ C h big. absurd (let j : m .points ≤ maxPoints = few in omega arith);
-          refusal = λ M h. answer M h (ltb maxPoints (pointsAfter M l)) refl ∙ sym (points-decide (M .cells) (h .cells) (ltb maxPoints (pointsAfter M l))) ∙ sym (judged m t M l h);
+          refusal = λ v M h. answer M h (ltb maxPoints (pointsAfter M l)) refl ∙ sym (points-decide (M .cells) (h .cells) (ltb maxPoints (pointsAfter M l))) ∙ sym (judged m t M b v h);
           refused = λ n z. ⊎-elim (λ y. absurd (suc-ne-zero _ (sym z ∙ y))) (λ y. (y .1, y .0 ∙ ap refusedWith (sym (number 7 (y .0)) ∙ z))) (u .either);
           done = λ M h z. u .done M (updating M h) (enough M h (ltb maxPoints (pointsAfter M l)) refl z);
         }

@@ -2,30 +2,35 @@
 use Prim.Native.Nat.{ℕ, zero, suc, _+_, _-_, _/_, _%_, _≤_, _<_}
 use native.Mathlib.Omega.{arith}
 use mathlib.Core.Path.{_≡_, refl, sym, ap, _∙_}
-use mathlib.Core.Logic.{⊎-elim}
+use mathlib.Core.Logic.{⊎-elim, inl, inr}
+use mathlib.Core.Bool.{Bool, true, false}
 use mathlib.Core.List.{List, _++_}
 use mathlib.Core.Option.{Option}
+use lib.Dec.{ltb}
 use lib.Ieee.{Float}
 use lib.IntN.{ℤ}
 use lib.ListN.{drop, getD, length}
 use lib.Seq.{ext-getD, getD-drop}
 use Rattle.ieee.proofs.Tools.{lt-or-ge}
-use Rattle.limits.specs.Batches.{entries}
+use Rattle.floor.specs.Floor as floor
+use Rattle.limits.specs.Batches.{entries, ragged}
 use Rattle.model.specs.Limits.{maxCells, maxPoints}
 use Rattle.held.specs.Layers.{blocksOf, edgeAt, statusesOf}
 use Rattle.model.specs.Map as model
 use Rattle.model.specs.Maps.{keys}
-use Rattle.model.specs.Refusal.{judge, refuseOpen}
+use Rattle.model.specs.Refusal.{judge, refuseOpen, short}
 use Rattle.held.specs.Codes.{codes, pairCode}
 use Rattle.held.specs.Pairs.{Pairs, pairPlace, pairPlaces}
-use Rattle.visibility.specs.Change.{Changing, Done, Lent, lentNeeds}
+use Rattle.visibility.specs.Change.{Changing, Decided, Done, Lent, lentNeeds, refuseInput, refusedWith}
 use Rattle.held.specs.Holds.{Behind, Holds, Tables, needs}
 use Rattle.table.specs.Tables.{pad}
 use Rattle.visibility.specs.Open.{Opening}
 use Rattle.visibility.specs.Radius.{Rebuilding}
+use Rattle.visibility.specs.Radius as radius
 use Rattle.visibility.specs.declared.change.Changed.{Changed}
 use Rattle.held.specs.declared.map.Map.{Map}
 use Rattle.held.specs.declared.map.Outcome.{Outcome}
+use Rattle.visibility.proofs.RefuseLaws.{batch-ragged}
 
 -- ---- tables that hold one map, and have the same behind their needs
 pad-one : (cap : ℕ) (l a b : List ℕ) → a ≡ pad cap l ++ drop cap a → b ≡ pad cap l ++ drop cap b → drop cap a ≡ drop cap b → a ≡ b
@@ -78,7 +83,7 @@ module _ (c r : Float) (t t₁ t₂ : Tables) (o₁ o₂ : Outcome) where
           (holds-one (o₁ .map) (o₂ .map) (model.fresh c r) t t₁ t₂ (x .holds p) (y .holds q) (x .behind p) (y .behind q), same-outcome o₁ o₂ (p ∙ sym q) (x .answer p ∙ sym (y .answer q)))
       go (suc n) p q = (x .refused n p .0 ∙ sym (y .refused n q .0), x .refused n p .1 ∙ sym (y .refused n q .1))
 
--- ---- a batch, of maps that the tables hold
+-- ---- a batch
 same-lent : (t u : Lent) → t .tables ≡ u .tables → t .confirmed ≡ u .confirmed → t .full ≡ u .full → t .corners ≡ u .corners → t .altered ≡ u .altered → t ≡ u
 same-lent t u a b c d e = rw (a, b, c, d, e) refl
 
@@ -94,19 +99,59 @@ module _ (m : Map) (b : List ℤ) (t t₁ t₂ : Lent) (r₁ r₂ : Changed) whe
     x .answer ∙ sym (y .answer),
   )
 
-  pub change-one : Changing m b t t₁ r₁ → Changing m b t t₂ r₂ → (M : model.Map) → Holds m (t .tables) M → (t₁ ≡ t₂) × (r₁ ≡ r₂)
-  change-one x y M h = go (judge (lentNeeds t) (model.batch (entries b)) M (model.next (model.batch (entries b)) M)) (x .refusal M h) (y .refusal M h)
-    where
-      go : (n : ℕ) → r₁ .refusal ≡ n → r₂ .refusal ≡ n → (t₁ ≡ t₂) × (r₁ ≡ r₂)
-      go zero p q = done-one M (x .done M h p) (y .done M h q)
-      go (suc n) p q = (x .refused n p .0 ∙ sym (y .refused n q .0), x .refused n p .1 ∙ sym (y .refused n q .1))
+  module _ (x : Changing m b t t₁ r₁) (y : Changing m b t t₂ r₂) where
+    refused-one : (n : ℕ) → r₁ .refusal ≡ suc n → r₂ .refusal ≡ suc n → (t₁ ≡ t₂) × (r₁ ≡ r₂)
+    refused-one n p q = (x .refused n p .0 ∙ sym (y .refused n q .0), x .refused n p .1 ∙ sym (y .refused n q .1))
 
--- ---- a change of the radius, of a map that is held
-module _ (m : Map) (r : Float) (t t₁ t₂ : Tables) (o₁ o₂ : Outcome) where
-  pub radius-one : Rebuilding m r t t₁ o₁ → Rebuilding m r t t₂ o₂ → (M : model.Map) → Holds m t M → (t₁ ≡ t₂) × (o₁ ≡ o₂)
-  radius-one x y M h = go (judge (needs t) (model.radius r) M (model.next (model.radius r) M)) (x .refusal M h) (y .refusal M h)
+    input-one : (n : ℕ) → refuseInput m b t ≡ suc n → (t₁ ≡ t₂) × (r₁ ≡ r₂)
+    input-one n e = refused-one n (ap (λ (r : Changed). r .refusal) (x .input n e)) (ap (λ (r : Changed). r .refusal) (y .input n e))
+
+    held-one : (M : model.Map) → Holds m (t .tables) M → (z : Bool) → ragged b ≡ z → (t₁ ≡ t₂) × (r₁ ≡ r₂)
+    held-one M h true w = let k = batch-ragged (short (lentNeeds t)) m b (ltb maxCells (m .cells)) false w in input-one (k .0) (k .1)
+    held-one M h false w = go (judge (lentNeeds t) (model.batch (entries b)) M (model.next (model.batch (entries b)) M)) (x .refusal w M h) (y .refusal w M h)
+      where
+        go : (n : ℕ) → r₁ .refusal ≡ n → r₂ .refusal ≡ n → (t₁ ≡ t₂) × (r₁ ≡ r₂)
+        go zero p q = done-one M (x .done M h p) (y .done M h q)
+        go (suc n) p q = refused-one n p q
+
+    -- too many points over cells that are held: 6 or 7, where the input alone refuses nothing
+    packed-one : (C : List ℕ) → floor.Holds (t .tables .cells) (m .cells) C → maxPoints < m .points → (k : ℕ) → refuseInput m b t ≡ k → (t₁ ≡ t₂) × (r₁ ≡ r₂)
+    packed-one C h g (suc n) e = input-one n e
+    packed-one C h g zero e = ⊎-elim (λ p. refused-one 5 p (same ∙ p)) (λ p. refused-one 6 p (same ∙ p)) (x .overfull g e)
+      where
+        same : r₂ .refusal ≡ r₁ .refusal
+        same = y .packed C h g ∙ sym (x .packed C h g)
+
+    pub change-one : Decided m b t → (t₁ ≡ t₂) × (r₁ ≡ r₂)
+    change-one (inl k) = held-one (k .0) (k .1) (ragged b) refl
+    change-one (inr (inl k)) = input-one (k .0) (k .1)
+    change-one (inr (inr k)) = packed-one (k .0) (k .1) (k .2) (refuseInput m b t) refl
+
+-- A map that comes with too many points is refused, whatever its tables hold, and nothing is altered.
+module _ {m : Map} {b : List ℤ} {t t′ : Lent} {r : Changed} (x : Changing m b t t′ r) (big : maxPoints < m .points) where
+  pub overfull-refused : (n : ℕ) × (r ≡ refusedWith (suc n)) × (t′ ≡ t)
+  overfull-refused = go (refuseInput m b t) refl
+    where
+      with-number : (n : ℕ) → r .refusal ≡ suc n → (n : ℕ) × (r ≡ refusedWith (suc n)) × (t′ ≡ t)
+      with-number n e = (n, x .refused n e .1, x .refused n e .0)
+
+      go : (k : ℕ) → refuseInput m b t ≡ k → (n : ℕ) × (r ≡ refusedWith (suc n)) × (t′ ≡ t)
+      go zero e = ⊎-elim (with-number 5) (with-number 6) (x .overfull big e)
+      go (suc n) e = with-number n (ap (λ (c : Changed). c .refusal) (x .input n e))
+
+-- ---- a change of the radius
+module _ (m : Map) (r : Float) (t t₁ t₂ : Tables) (o₁ o₂ : Outcome) (x : Rebuilding m r t t₁ o₁) (y : Rebuilding m r t t₂ o₂) where
+  resize-refused : (n : ℕ) → o₁ .refusal ≡ suc n → o₂ .refusal ≡ suc n → (t₁ ≡ t₂) × (o₁ ≡ o₂)
+  resize-refused n p q = (x .refused n p .0 ∙ sym (y .refused n q .0), x .refused n p .1 ∙ sym (y .refused n q .1))
+
+  resize-held : (M : model.Map) → Holds m t M → (t₁ ≡ t₂) × (o₁ ≡ o₂)
+  resize-held M h = go (judge (needs t) (model.radius r) M (model.next (model.radius r) M)) (x .refusal M h) (y .refusal M h)
     where
       go : (n : ℕ) → o₁ .refusal ≡ n → o₂ .refusal ≡ n → (t₁ ≡ t₂) × (o₁ ≡ o₂)
       go zero p q =
           (holds-one (o₁ .map) (o₂ .map) (model.next (model.radius r) M) t t₁ t₂ (x .holds M h p) (y .holds M h q) (x .behind M h p) (y .behind M h q), same-outcome o₁ o₂ (p ∙ sym q) (x .answer M h p ∙ sym (y .answer M h q)))
-      go (suc n) p q = (x .refused n p .0 ∙ sym (y .refused n q .0), x .refused n p .1 ∙ sym (y .refused n q .1))
+      go (suc n) p q = resize-refused n p q
+
+  pub radius-one : radius.Decided m r t → (t₁ ≡ t₂) × (o₁ ≡ o₂)
+  radius-one (inl k) = resize-held (k .0) (k .1)
+  radius-one (inr k) = resize-refused (k .0) (ap (λ (o : Outcome). o .refusal) (x .input (k .0) (k .1))) (ap (λ (o : Outcome). o .refusal) (y .input (k .0) (k .1)))

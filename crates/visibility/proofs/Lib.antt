@@ -10,6 +10,7 @@ pub mod FinishLaws
 pub mod MarkLaws
 pub mod OpenLaws
 pub mod PairLaws
+pub mod PartLaws
 pub mod RebuildLaws
 pub mod RedrawLaws
 pub mod RefuseLaws

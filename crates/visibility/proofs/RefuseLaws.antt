@@ -1,16 +1,16 @@
 -- A map's refusals in their order. Assumes nothing.
-use Prim.Native.Nat.{ℕ, _≤_, _<_}
+use Prim.Native.Nat.{ℕ, suc, _≤_, _<_}
 use native.Mathlib.Nat.{suc-ne-zero}
 use mathlib.Core.Path.{_≡_, refl, sym, _∙_}
 use mathlib.Core.Bool.{Bool, true, false, cond, _||_, or-false}
 use mathlib.Core.List.{List, [], _∷_}
 use lib.Dec.{ltb}
+use lib.IntN.{ℤ}
 use lib.ListN.{length}
 use lib.Ieee.{Float}
 use borrow.Author.Tests.{lt-ltb, le-ltb}
 use Rattle.limits.specs.Batches as grid
-use Rattle.model.specs.Map.{Entry}
-use Rattle.model.specs.Refusal.{badRadius, badSize, firstOf, outside, short, unsorted, verdict}
+use Rattle.model.specs.Refusal.{badRadius, badSize, firstOf, outside, short, verdict}
 use Rattle.visibility.specs.Change.{refuseBatch}
 use Rattle.visibility.specs.Radius.{refuseRadius}
 use Rattle.held.specs.declared.map.Map.{Map}
@@ -56,13 +56,13 @@ turn-none (b ∷ l) n a e = go (b .1) e (turn-none l n (a .1))
     go false e ih = ih e
 
 -- ---- a batch
-abbrev ofEntries : List Entry → List (ℕ × Bool)
-ofEntries l = (3, ltb 256 (length l)) ∷ (4, unsorted l) ∷ (5, outside l) ∷ []
+abbrev ofEntries : List ℤ → List (ℕ × Bool)
+ofEntries l = (3, ltb 256 (length (grid.entries l))) ∷ (4, grid.disorder l) ∷ (5, outside (grid.entries l)) ∷ []
 
-abbrev pub ofInput : Bool → Map → List Entry → List (ℕ × Bool)
+abbrev pub ofInput : Bool → Map → List ℤ → List (ℕ × Bool)
 ofInput s m l = (9, s) ∷ (1, badSize (m .size)) ∷ (2, badRadius (m .size) (m .radius)) ∷ ofEntries l
 
-module _ (s : Bool) (m : Map) (l : List Entry) (w p : Bool) where
+module _ (s : Bool) (m : Map) (l : List ℤ) (w p : Bool) where
   pub in-turn : refuseBatch s m l w p ≡ inTurn (ofInput s m l) (cond w 6 (cond p 7 0))
   unfolding refuseBatch verdict firstOf
   in-turn = refl
@@ -92,6 +92,35 @@ module _ (s : Bool) (m : Map) (l : List Entry) (w p : Bool) where
         -- 6 where there are too many cells, 7 where there are too many points, else 0
         pub batch-last : (n : ℕ) → n ≡ grid.refuseBatch l → n ≡ 0 → cond w 6 (cond p 7 0) ≡ refuseBatch s m l w p
         batch-last n h z = turn-none (ofEntries l) (cond w 6 (cond p 7 0)) (suc-ne-zero _, (suc-ne-zero _, (suc-ne-zero _, tt))) (sym batch-turn ∙ sym h ∙ z) ∙ sym known
+
+-- a batch that is short of room, or cannot be read, is refused whatever else there is
+some : (a b c d : Bool) → (n : ℕ) × (_≡_ {A = ℕ} (cond a 9 (cond b 1 (cond c 2 (cond d 3 4)))) (suc n))
+some true b c d = (8, refl)
+some false true c d = (0, refl)
+some false false true d = (1, refl)
+some false false false true = (2, refl)
+some false false false false = (3, refl)
+
+module _ (s : Bool) (m : Map) (l : List ℤ) (w p : Bool) where
+  pub batch-ragged : grid.ragged l ≡ true → (n : ℕ) × (refuseBatch s m l w p ≡ suc n)
+  batch-ragged e =
+      let k = some s (badSize (m .size)) (badRadius (m .size) (m .radius)) (ltb 256 (length (grid.entries l))) in
+      (k .0, in-turn s m l w p ∙ rw e (k .1))
+
+  pub batch-unread : s || grid.ragged l ≡ true → (n : ℕ) × (refuseBatch s m l w p ≡ suc n)
+  batch-unread e = go s refl e
+    where
+      go : (z : Bool) → s ≡ z → z || grid.ragged l ≡ true → (n : ℕ) × (refuseBatch s m l w p ≡ suc n)
+      go true i h = (8, sym (batch-short s m l w p i))
+      go false i h = batch-ragged h
+
+  -- and so is one on a map of a bad cell size
+  pub batch-unsized : badSize (m .size) ≡ true → (n : ℕ) × (refuseBatch s m l w p ≡ suc n)
+  batch-unsized e = go s refl
+    where
+      go : (z : Bool) → s ≡ z → (n : ℕ) × (refuseBatch s m l w p ≡ suc n)
+      go true i = (8, sym (batch-short s m l w p i))
+      go false i = (0, sym (batch-size s m l w p i e))
 
 -- ---- a radius
 module _ (s : Bool) (m : Map) (r : Float) where

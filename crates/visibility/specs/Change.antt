@@ -1,6 +1,7 @@
 -- A batch on a map, whole: its refusals, its answer, and every lent table afterwards (document 01, refusals and their order; occupancy/mod.rs, `Visibility::change_cells`). Definitions only.
 use Prim.Native.Nat.{ℕ, suc, _<_}
 use mathlib.Core.Path.{_≡_}
+use mathlib.Core.Logic.{_⊎_}
 use mathlib.Core.Bool.{Bool, false, true}
 use mathlib.Core.List.{List, [], _∷_, _++_}
 use lib.Dec.{ltb}
@@ -8,11 +9,11 @@ use lib.IntN.{ℤ}
 use lib.ListN.{length}
 use Rattle.corner.specs.Changes.{numbered}
 use Rattle.floor.specs.Floor as floor
-use Rattle.limits.specs.Batches.{entries, flags}
+use Rattle.limits.specs.Batches.{disorder, entries, flags, ragged}
 use Rattle.model.specs.Batch.{cellsAfter, confirmed, cornerChanges}
 use Rattle.model.specs.Limits.{maxBatch, maxCells, maxPoints, needConfirmed, needCorners}
 use Rattle.model.specs.Map as model
-use Rattle.model.specs.Refusal.{badRadius, badSize, judge, outside, short, unsorted, verdict}
+use Rattle.model.specs.Refusal.{badRadius, badSize, judge, outside, short, verdict}
 use Rattle.table.specs.Listed.{Listed}
 use Rattle.held.specs.Holds.{Behind, Holds, Tables, needs, noMap}
 use Rattle.visibility.specs.declared.change.Changed.{Changed}
@@ -29,21 +30,25 @@ pub record Lent : Type 0 where
 abbrev pub lentNeeds : Lent → List (ℕ × ℕ)
 lentNeeds t = needs (t .tables) ++ ((length (t .confirmed), needConfirmed) ∷ (length (t .full), needConfirmed) ∷ (length (t .corners), needCorners) ∷ (length (t .altered), needCorners) ∷ [])
 
--- the model's refusals of a batch (`judge`): whether a table is short, the map handed in, the entries, whether there are too many cells or points
-unfoldable pub refuseBatch : Bool → Map → List model.Entry → Bool → Bool → ℕ
-refuseBatch lent m l crowded packed =
+-- the model's refusals of a batch (`judge`): whether a table is short, the map and the batch as they are handed in, whether there are too many cells or points
+unfoldable pub refuseBatch : Bool → Map → List ℤ → Bool → Bool → ℕ
+refuseBatch lent m b crowded packed =
     verdict
     (record {
       short = lent;
       size = badSize (m .size);
       radius = badRadius (m .size) (m .radius);
-      long = ltb maxBatch (length l);
-      disorder = unsorted l;
-      outside = outside l;
+      long = ltb maxBatch (length (entries b));
+      disorder = disorder b;
+      outside = outside (entries b);
       cells = crowded;
       points = packed;
       query = false;
     })
+
+-- what the input alone decides, the number of cells handed in among it; 0 for nothing
+abbrev pub refuseInput : Map → List ℤ → Lent → ℕ
+refuseInput m b t = refuseBatch (short (lentNeeds t)) m b (ltb maxCells (m .cells)) false
 
 -- a refused call answers its number, and all else is zero
 abbrev pub refusedWith : ℕ → Changed
@@ -71,10 +76,15 @@ pub record Done (m : Map) (M : model.Map) (l : List model.Entry) (t t′ : Lent)
 
 -- ---- the call. A map whose tables hold none (no call gives one) may only be refused, or changed in a way that is not promised
 pub record Changing (m : Map) (b : List ℤ) (t t′ : Lent) (r : Changed) : Type 0 where
-  -- what the input alone decides, the number of cells handed in among it
-  pub input : (n : ℕ) → refuseBatch (short (lentNeeds t)) m (entries b) (ltb maxCells (m .cells)) false ≡ suc n → r ≡ refusedWith (suc n)
-  -- a map that comes with too many points
-  pub packed : (C : List ℕ) → floor.Holds (t .tables .cells) (m .cells) C → maxPoints < m .points → r .refusal ≡ refuseBatch (short (lentNeeds t)) m (entries b) (ltb maxCells (length (cellsAfter (model.toBatch (entries b)) C))) true
-  pub refusal : (M : model.Map) → Holds m (t .tables) M → r .refusal ≡ judge (lentNeeds t) (model.batch (entries b)) M (model.next (model.batch (entries b)) M)
+  -- a ragged batch is refused so, too
+  pub input : (n : ℕ) → refuseInput m b t ≡ suc n → r ≡ refusedWith (suc n)
+  -- a map that comes with too many points is refused whatever the tables hold; where they hold the cells, it is known with which number
+  pub overfull : maxPoints < m .points → refuseInput m b t ≡ 0 → (r .refusal ≡ 6) ⊎ (r .refusal ≡ 7)
+  pub packed : (C : List ℕ) → floor.Holds (t .tables .cells) (m .cells) C → maxPoints < m .points → r .refusal ≡ refuseBatch (short (lentNeeds t)) m b (ltb maxCells (length (cellsAfter (model.toBatch (entries b)) C))) true
+  pub refusal : ragged b ≡ false → (M : model.Map) → Holds m (t .tables) M → r .refusal ≡ judge (lentNeeds t) (model.batch (entries b)) M (model.next (model.batch (entries b)) M)
   pub refused : (n : ℕ) → r .refusal ≡ suc n → (t′ ≡ t) × (r ≡ refusedWith (suc n))
   pub done : (M : model.Map) → Holds m (t .tables) M → r .refusal ≡ 0 → Done m M (entries b) t t′ r
+
+-- the calls that the record above decides whole: of tables that hold a map, any that the input alone refuses, and of too many points over cells that are held
+abbrev pub Decided : Map → List ℤ → Lent → Type 0
+Decided m b t = ((M : model.Map) × Holds m (t .tables) M) ⊎ ((n : ℕ) × (refuseInput m b t ≡ suc n)) ⊎ ((C : List ℕ) × floor.Holds (t .tables .cells) (m .cells) C × (maxPoints < m .points))

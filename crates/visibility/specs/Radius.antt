@@ -1,6 +1,7 @@
 -- Changing the radius of a map (document 01, refusals and their order; occupancy/mod.rs, `change_agent_radius`). Definitions only.
 use Prim.Native.Nat.{ℕ, suc}
 use mathlib.Core.Path.{_≡_}
+use mathlib.Core.Logic.{_⊎_}
 use mathlib.Core.Bool.{Bool, false, _||_}
 use lib.Dec.{ltb}
 use lib.Ieee.{Float}
@@ -37,3 +38,7 @@ pub record Rebuilding (m : Map) (r : Float) (t t′ : Tables) (o : Outcome) : Ty
   pub answer : (M : model.Map) → Holds m t M → o .refusal ≡ 0 → o .map ≡ record { size = m .size; radius = r; cells = m .cells; points = length (model.next (model.radius r) M .layer .points) }
   pub holds : (M : model.Map) → Holds m t M → o .refusal ≡ 0 → Holds (o .map) t′ (model.next (model.radius r) M)
   pub behind : (M : model.Map) → Holds m t M → o .refusal ≡ 0 → Behind t t′
+
+-- the calls that the record above decides whole: of tables that hold a map, and any that the input alone refuses
+abbrev pub Decided : Map → Float → Tables → Type 0
+Decided m r t = ((M : model.Map) × Holds m t M) ⊎ ((n : ℕ) × (refuseRadius (short (needs t)) m r ≡ suc n))

@@ -50,7 +50,7 @@ fn refused(number: u8) -> Changed
 
 // The refusals that the input alone decides: 9; 1; 2; 3, 4 and 5; 6, of the map handed in.
 fn judge(short: bool, map: Map, batch: &[i64]) -> u8
-    ensures { λ r. ⌜ r ≡ refuseBatch short map (entries (now (batch .entry))) (ltb maxCells (map .cells)) false ⌝ }
+    ensures { λ r. ⌜ r ≡ refuseBatch short map (now (batch .entry)) (ltb maxCells (map .cells)) false ⌝ }
 {
     if short {
         return 9;

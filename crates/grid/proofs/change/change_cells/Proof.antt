@@ -8,7 +8,6 @@ use lib.ListN.{length}
 use lib.Seq.{length-take-le}
 use borrow.Author.Needs.{needs}
 use borrow.Author.Tests.{ltb-false}
-use Rattle.limits.specs.Batches.{entries}
 use Rattle.grid.specs.Change.{refuseChange, shortOf}
 use Rattle.grid.proofs.CallLaws.{accepted, early-refused, late-refused}
 use Rattle.grid.proofs.RefuseLaws.{Passed, change-passed, long-enough}
@@ -22,17 +21,17 @@ start p = p .before .before .before .before .before .before
 -- the refusal that is due by the input, with the lengths written out
 due : (j : tie.After-judge) →
     let a = start (j .before) .args in
-    j .judge .result ≡ refuseChange (shortOf (length (a .cells .now)) (length (a .confirmed .now)) (length (a .full .now)) (length (a .corners .now)) (length (a .statuses .now))) (a .floor .size) (entries (a .batch .now)) (ltb 1024 (a .floor .cells))
+    j .judge .result ≡ refuseChange (shortOf (length (a .cells .now)) (length (a .confirmed .now)) (length (a .full .now)) (length (a .corners .now)) (length (a .statuses .now))) (a .floor .size) (a .batch .now) (ltb 1024 (a .floor .cells))
 due j =
     let a = start (j .before) .args in
-    j .judge .ensures ∙ ap (λ (s : Bool). refuseChange s (a .floor .size) (entries (a .batch .now)) (ltb 1024 (a .floor .cells))) (j .before .is-short .ensures)
+    j .judge .ensures ∙ ap (λ (s : Bool). refuseChange s (a .floor .size) (a .batch .now) (ltb 1024 (a .floor .cells))) (j .before .is-short .ensures)
 
 passed : (c : tie.Else1) →
     let a = start (c .before .before) .args in
-    Passed (shortOf (length (a .cells .now)) (length (a .confirmed .now)) (length (a .full .now)) (length (a .corners .now)) (length (a .statuses .now))) (a .floor .size) (entries (a .batch .now)) (ltb 1024 (a .floor .cells))
+    Passed (shortOf (length (a .cells .now)) (length (a .confirmed .now)) (length (a .full .now)) (length (a .corners .now)) (length (a .statuses .now))) (a .floor .size) (a .batch .now) (ltb 1024 (a .floor .cells))
 passed c =
     let a = start (c .before .before) .args in
-    change-passed (shortOf (length (a .cells .now)) (length (a .confirmed .now)) (length (a .full .now)) (length (a .corners .now)) (length (a .statuses .now))) (a .floor .size) (entries (a .batch .now)) (ltb 1024 (a .floor .cells)) (sym (due (c .before)) ∙ c .if1 .left)
+    change-passed (shortOf (length (a .cells .now)) (length (a .confirmed .now)) (length (a .full .now)) (length (a .corners .now)) (length (a .statuses .now))) (a .floor .size) (a .batch .now) (ltb 1024 (a .floor .cells)) (sym (due (c .before)) ∙ c .if1 .left)
 
 long : (c : tie.Else1) →
     let a = start (c .before .before) .args in

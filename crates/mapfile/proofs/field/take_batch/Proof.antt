@@ -2,7 +2,7 @@
 use mathlib.Core.Path.{refl}
 use Rattle.visibility.specs.Change.{Lent}
 use Rattle.held.specs.Holds.{Tables}
-use Rattle.mapfile.proofs.BatchLaws.{batch-refused, batch-taken, front, front-is, front-long}
+use Rattle.mapfile.proofs.BatchLaws.{batch-refused, batch-taken, front, front-is, front-long, front-whole}
 use Rattle.mapfile.proofs.field.take_batch.Statement.{statement}
 use Rattle.mapfile.proofs.field.take_batch.Tie as tie
 
@@ -82,7 +82,7 @@ returns c l f =
     let s = start n in
     let v = s .args .value .now in
     batch-refused (s .args .reader) v (s .args .used) _ (lent s) (left g) (g .change-cells .result) (g .change-cells .ensures)
-    (front-is v (n .numbers-of .result) _ (n .numbers-of .ensures) (n .numbers-of .kept .1 .0) l f) (c .if1 .taken)
+    (front-whole v (n .numbers-of .result) _ (n .numbers-of .ensures) (n .numbers-of .kept .1 .0)) (front-is v (n .numbers-of .result) _ (n .numbers-of .ensures) (n .numbers-of .kept .1 .0) l f) (c .if1 .taken)
 
 onward-requires : tie.Need-onward-requires
 onward-requires c κs = tt
@@ -110,7 +110,7 @@ returns-2 c l f =
     let s = start n in
     let v = s .args .value .now in
     batch-taken (s .args .reader) v (s .args .used) _ (lent s) (left g) (g .change-cells .result) (g .change-cells .ensures)
-    (front-is v (n .numbers-of .result) _ (n .numbers-of .ensures) (n .numbers-of .kept .1 .0) l f) (e .if1 .left) (c .onward .result) (c .onward .ensures)
+    (front-whole v (n .numbers-of .result) _ (n .numbers-of .ensures) (n .numbers-of .kept .1 .0)) (front-is v (n .numbers-of .result) _ (n .numbers-of .ensures) (n .numbers-of .kept .1 .0) l f) (e .if1 .left) (c .onward .result) (c .onward .ensures)
 
 pub take-batch-spec : {M : Type 1} → statement M
 take-batch-spec =

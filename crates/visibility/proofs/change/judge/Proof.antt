@@ -5,14 +5,13 @@ use Prim.Native.Nat.{ℕ}
 use lib.Dec.{ltb}
 use borrow.Author.Needs.{needs}
 use borrow.Author.Tests.{lt-ltb, le-ltb}
-use Rattle.limits.specs.Batches.{entries}
 use Rattle.visibility.specs.Change.{refuseBatch}
 use Rattle.visibility.proofs.RefuseLaws.{batch-entries, batch-last, batch-radius, batch-short, batch-size}
 use Rattle.visibility.proofs.change.judge.Statement.{statement}
 use Rattle.visibility.proofs.change.judge.Tie as tie
 
 returns : tie.Need-returns
-returns c = let a = c .before .args in batch-short (a .short) (a .map) (entries (a .batch .now)) (ltb 1024 (a .map .cells)) false (c .if1 .taken)
+returns c = let a = c .before .args in batch-short (a .short) (a .map) (a .batch .now) (ltb 1024 (a .map .cells)) false (c .if1 .taken)
 
 bad-size-requires : tie.Need-bad-size-requires
 bad-size-requires c κs = search needs
@@ -21,7 +20,7 @@ returns-2 : tie.Need-returns-2
 returns-2 c =
     let s = c .before in
     let a = s .before .before .args in
-    batch-size (a .short) (a .map) (entries (a .batch .now)) (ltb 1024 (a .map .cells)) false (s .before .if1 .left) (sym (s .bad-size .ensures) ∙ c .if2 .taken)
+    batch-size (a .short) (a .map) (a .batch .now) (ltb 1024 (a .map .cells)) false (s .before .if1 .left) (sym (s .bad-size .ensures) ∙ c .if2 .taken)
 
 bad-radius-requires : tie.Need-bad-radius-requires
 bad-radius-requires c κs = search needs
@@ -32,7 +31,7 @@ returns-3 c =
     let e = r .before in
     let s = e .before in
     let a = s .before .before .args in
-    batch-radius (a .short) (a .map) (entries (a .batch .now)) (ltb 1024 (a .map .cells)) false (s .before .if1 .left) (sym (s .bad-size .ensures) ∙ e .if2 .left) (sym (r .bad-radius .ensures) ∙ c .if3 .taken)
+    batch-radius (a .short) (a .map) (a .batch .now) (ltb 1024 (a .map .cells)) false (s .before .if1 .left) (sym (s .bad-size .ensures) ∙ e .if2 .left) (sym (r .bad-radius .ensures) ∙ c .if3 .taken)
 
 refuse-batch-requires : tie.Need-refuse-batch-requires
 refuse-batch-requires c κs = search needs
@@ -45,13 +44,13 @@ returns-4 c =
     let e = r .before in
     let s = e .before in
     let a = s .before .before .args in
-    batch-entries (a .short) (a .map) (entries (a .batch .now)) (ltb 1024 (a .map .cells)) false (s .before .if1 .left) (sym (s .bad-size .ensures) ∙ e .if2 .left) (sym (r .bad-radius .ensures) ∙ f .if3 .left) (b .refuse-batch .result) (b .refuse-batch .ensures) (c .if4 .taken)
+    batch-entries (a .short) (a .map) (a .batch .now) (ltb 1024 (a .map .cells)) false (s .before .if1 .left) (sym (s .bad-size .ensures) ∙ e .if2 .left) (sym (r .bad-radius .ensures) ∙ f .if3 .left) (b .refuse-batch .result) (b .refuse-batch .ensures) (c .if4 .taken)
 
 -- nothing but the number of cells is left to judge
 last : (c : tie.Else4) →
     let s = c .before .before .before .before .before in
     let a = s .before .before .args in
-    _≡_ {A = ℕ} (cond (ltb 1024 (a .map .cells)) 6 0) (refuseBatch (a .short) (a .map) (entries (a .batch .now)) (ltb 1024 (a .map .cells)) false)
+    _≡_ {A = ℕ} (cond (ltb 1024 (a .map .cells)) 6 0) (refuseBatch (a .short) (a .map) (a .batch .now) (ltb 1024 (a .map .cells)) false)
 last c =
     let b = c .before in
     let f = b .before in
@@ -59,7 +58,7 @@ last c =
     let e = r .before in
     let s = e .before in
     let a = s .before .before .args in
-    batch-last (a .short) (a .map) (entries (a .batch .now)) (ltb 1024 (a .map .cells)) false (s .before .if1 .left) (sym (s .bad-size .ensures) ∙ e .if2 .left) (sym (r .bad-radius .ensures) ∙ f .if3 .left) (b .refuse-batch .result) (b .refuse-batch .ensures) (c .if4 .left)
+    batch-last (a .short) (a .map) (a .batch .now) (ltb 1024 (a .map .cells)) false (s .before .if1 .left) (sym (s .bad-size .ensures) ∙ e .if2 .left) (sym (r .bad-radius .ensures) ∙ f .if3 .left) (b .refuse-batch .result) (b .refuse-batch .ensures) (c .if4 .left)
 
 returns-5 : tie.Need-returns-5
 returns-5 c =
