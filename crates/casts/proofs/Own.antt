@@ -39,15 +39,15 @@ use Rattle.model.proofs.OrderLaws.{no-ltb}
 use Rattle.model.proofs.TestLaws.{not-false, shift-le}
 use Rattle.model.proofs.RunLaws.{passed, Sound, next-sound, open-sound, run-keeps, opened-is}
 use Rattle.model.proofs.PointPlaces.{point-inside}
-use Rattle.casts.specs.Casts.{Own, stands, asked, OwnSafe, RunSafe}
+use Rattle.casts.specs.Casts.{Own, stands, asked, near, OwnSafe, RunSafe}
 use Rattle.casts.proofs.Casts.{Size, Place, Length, size-finite, least-above, size-of, or-no, point-casts, square-casts, sweep-casts}
 
 -- ---- a cell at most 2^21 from the origin
 abbrev Close : ℕ → Type 0
 Close k = Inside 2097152 k
 
-near : (u : ℕ) → origin ≤ u + 2097152 → u ≤ origin + 2097152 → natAbs (unbias u) ≤ 2097152
-near u h k = ⊎-elim (λ l. rw (lt-ltb u origin l) (omega arith)) (λ g. rw (le-ltb u origin g) (omega arith)) (lt-or-ge u origin)
+near-zero : (u : ℕ) → origin ≤ u + 2097152 → u ≤ origin + 2097152 → natAbs (unbias u) ≤ 2097152
+near-zero u h k = ⊎-elim (λ l. rw (lt-ltb u origin l) (omega arith)) (λ g. rw (le-ltb u origin g) (omega arith)) (lt-or-ge u origin)
 
 low : (z : ℤ) → natAbs z ≤ 2097152 → leZ (negsuc 2097151) z ≡ true
 low (pos n) h = refl
@@ -63,7 +63,7 @@ ends = (refl, refl)
 
 coordinate : (u : ℕ) → origin ≤ u + 2097152 → u ≤ origin + 2097152 → Within (pow2 21) (ofInt binary64 (unbias u))
 coordinate u h k =
-    let n = near u h k in
+    let n = near-zero u h k in
     let x = ofInt binary64 (unbias u) in (
       le-trans (neg (pow2 21)) (ofInt binary64 (negsuc 2097151)) x (ends .0) (ofInt-mono (negsuc 2097151) (unbias u) (low (unbias u) n)),
       le-trans x (ofInt binary64 (pos 2097152)) (pow2 21) (ofInt-mono (unbias u) (pos 2097152) (high (unbias u) n)) (ends .1),
@@ -268,6 +268,7 @@ unfolding refuseAsking
 own-close m g (inl l) k (stands t) = (l, stands-close m (l .1) g k t)
 own-close m g (inr e) k (stands t) = absurd (let z : T false = unfold get in rw e at t in z)
 own-close m g d k (asked lent x y e t) = let p = passed _ e in ((p .size, p .radius), asked-close lent m x y e k t)
+own-close m g d k (near lent e i) = let p = passed _ e in ((p .size, p .radius), i)
 
 pub own-safe : RunSafe
 own-safe c r os p q v w =
