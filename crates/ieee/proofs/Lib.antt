@@ -32,6 +32,7 @@ pub mod Thresholds
 pub mod Tools
 pub mod Unbiased
 pub mod WholeOrder
+pub mod Within
 pub mod YardCells
 pub mod YardLaws
 pub mod YardTests

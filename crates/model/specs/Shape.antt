@@ -116,6 +116,13 @@ unfoldable pub sidesAt : List Seg → Float → List Float
 sidesAt [] x = []
 sidesAt (s ∷ l) x = verticalAt s x ++ sidesAt l x
 
+-- those of the column x: the corners between its two lines, and the sides at each of them
+abbrev pub heights : Float → Strip → ℤ → List Float
+heights c q x =
+    let left = mul binary64 (ofInt binary64 x) c in
+    let right = mul binary64 (ofInt binary64 (x +ℤ pos 1)) c in
+    endsIn (ends q) left right ++ sidesAt (sides q) left ++ sidesAt (sides q) right
+
 -- `SearchF64` over them all
 unfoldable pub search : (Option Float → Float → Option Float) → Option Float → List Float → Option Float
 search check v [] = v
@@ -128,11 +135,7 @@ rowIn c (some low) none z = false
 rowIn c (some low) (some high) z = from (floorZ (div binary64 low c)) (ceilZ (div binary64 high c)) z
 
 unfoldable pub inColumn : Float → Strip → ℕ → Bool
-inColumn c q k =
-    let xLow = mul binary64 (ofInt binary64 (xOf k)) c in
-    let xHigh = mul binary64 (ofInt binary64 (xOf k +ℤ pos 1)) c in
-    let ys = endsIn (ends q) xLow xHigh ++ sidesAt (sides q) xLow ++ sidesAt (sides q) xHigh in
-    rowIn c (search checkMin none ys) (search checkMax none ys) (yOf k)
+inColumn c q k = let ys = heights c q (xOf k) in rowIn c (search checkMin none ys) (search checkMax none ys) (yOf k)
 
 unfoldable pub inStrip : Float → Strip → ℕ → Bool
 inStrip c q k =
