@@ -1,0 +1,3 @@
+-- The laws of crate `intake`.
+pub mod GoingLaws
+pub mod ToldLaws
