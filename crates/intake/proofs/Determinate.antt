@@ -25,7 +25,7 @@ use Rattle.reader.specs.declared.state.Reader.{Reader}
 use Rattle.reader.specs.declared.state.Reading.{Reading}
 use Rattle.intake.specs.Taken.{Came, Taken, lent}
 use Rattle.intake.specs.declared.input.End.{End}
-use Rattle.intake.specs.declared.listing.Told.{Told}
+use Rattle.intake.specs.declared.listing.Shown.{Shown}
 
 -- ---- a field of a wide window is one of all bytes that are left
 said-whole : (a : Reading) (w rest : List ℕ) (t : Tables) (s : model.Reading) → ((r : Reader) (u : ℕ) → a ≡ Reading.More r u → u ≤ length w) → Says a w t s → Says a (w ++ rest) t (extend rest s)
@@ -117,14 +117,14 @@ runs-one h (last-done x) (last-done y) = same-field h _ _ x y
 
 -- ---- the calls
 -- what is told of these bytes
-abbrev pub ToldOf : List ℕ → Told → List ℕ → List ℕ → Type 0
-ToldOf bytes (Told.Listed r) o o′ = Listed bytes o o′ r
-ToldOf bytes Told.Unread o o′ = ⊥
+abbrev pub ShownOf : List ℕ → Shown → List ℕ → List ℕ → Type 0
+ShownOf bytes (Shown.Listed r) o o′ = Listed bytes o o′ r
+ShownOf bytes Shown.Unread o o′ = ⊥
 
-pub list-input-one : (bytes o o₁ o₂ : List ℕ) (a c : Told) → ToldOf bytes a o o₁ → ToldOf bytes c o o₂ → (a ≡ c) × (o₁ ≡ o₂)
-list-input-one bytes o o₁ o₂ (Told.Listed r) (Told.Listed q) x y = let e = list-file-one bytes o o₁ o₂ r q x y in (ap Told.Listed (e .0), e .1)
-list-input-one bytes o o₁ o₂ (Told.Listed r) Told.Unread x y = absurd y
-list-input-one bytes o o₁ o₂ Told.Unread c x y = absurd x
+pub list-input-one : (bytes o o₁ o₂ : List ℕ) (a c : Shown) → ShownOf bytes a o o₁ → ShownOf bytes c o o₂ → (a ≡ c) × (o₁ ≡ o₂)
+list-input-one bytes o o₁ o₂ (Shown.Listed r) (Shown.Listed q) x y = let e = list-file-one bytes o o₁ o₂ r q x y in (ap Shown.Listed (e .0), e .1)
+list-input-one bytes o o₁ o₂ (Shown.Listed r) Shown.Unread x y = absurd y
+list-input-one bytes o o₁ o₂ Shown.Unread c x y = absurd x
 
 pub read-map-one : (bytes : List ℕ) (t t₁ t₂ : Tables) (a c : Reading) → Came bytes t t₁ a → Came bytes t t₂ c → (a ≡ c) × (t₁ ≡ t₂)
 read-map-one bytes t t₁ t₂ a c x y =

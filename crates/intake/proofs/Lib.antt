@@ -1,4 +1,4 @@
 -- The laws of crate `intake`.
 pub mod Determinate
 pub mod GoingLaws
-pub mod ToldLaws
+pub mod ShownLaws

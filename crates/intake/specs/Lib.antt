@@ -1,3 +1,3 @@
 -- What the contracts of crate `intake` cite.
+pub mod Shown
 pub mod Taken
-pub mod Told

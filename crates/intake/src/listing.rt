@@ -6,20 +6,20 @@ use answers::judge::lacks;
 use answers::judge::refused;
 use print::refusal::put_refusal;
 use report::map::list_map;
-ghost use Rattle.intake.specs.Told.{ToldInput};
+ghost use Rattle.intake.specs.Shown.{ShownInput};
 
 // The count of the listing's bytes, or the refusal 9 of a buffer that is short; or an input that could not be read to its end.
-pub enum Told {
+pub enum Shown {
     Listed(Count),
     Unread,
 }
 
 // Writes the listing of the map file that the descriptor gives to `out`. It is read through `buffer`, of 2,307 bytes at least.
-pub fn list_input(fd: i32, buffer: &mut [u8], out: &mut [u8]) -> Told
-    ensures { λ r. ⌜ ToldInput (now (buffer .entry)) (now (buffer .exit)) (now (out .entry)) (now (out .exit)) r ⌝ }
+pub fn list_input(fd: i32, buffer: &mut [u8], out: &mut [u8]) -> Shown
+    ensures { λ r. ⌜ ShownInput (now (buffer .entry)) (now (buffer .exit)) (now (out .entry)) (now (out .exit)) r ⌝ }
 {
     if lacks(buffer.len(), 2307, lacks(out.len(), 166656, false)) {
-        return Told::Listed(refused(9));
+        return Shown::Listed(refused(9));
     }
     let mut cells = [0u64; 1024];
     let mut points = [0u64; 64];
@@ -46,15 +46,15 @@ pub fn list_input(fd: i32, buffer: &mut [u8], out: &mut [u8]) -> Told
                 &pairs[..],
                 out,
             );
-            Told::Listed(listed)
+            Shown::Listed(listed)
         }
         End::Refused(number, field) => {
             let n = put_refusal(out, number, field);
-            Told::Listed(Count {
+            Shown::Listed(Count {
                 refusal: 0,
                 count: n,
             })
         }
-        End::Unread => Told::Unread,
+        End::Unread => Shown::Unread,
     }
 }

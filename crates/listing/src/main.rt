@@ -1,7 +1,7 @@
 // Lists the map file on standard input to standard output. A file of any length is read through a buffer of fixed length, field by field. The listing is written
 // once it is whole: where the input cannot be read to its end, nothing is. Nothing half-printed passes for a listing: its first line says how many lines there
 // are, and each is ended.
-use intake::listing::Told;
+use intake::listing::Shown;
 use intake::listing::list_input;
 use intake::output::put_front;
 use libc::STDERR_FILENO;
@@ -11,14 +11,14 @@ use libc::STDOUT_FILENO;
 fn main() {
     let mut buffer = [0u8; 65536];
     let mut out = [0u8; 166656];
-    let told = list_input(STDIN_FILENO, &mut buffer[..], &mut out[..]);
-    match told {
-        Told::Listed(listed) => {
+    let shown = list_input(STDIN_FILENO, &mut buffer[..], &mut out[..]);
+    match shown {
+        Shown::Listed(listed) => {
             if !put_front(STDOUT_FILENO, &out[..], listed.count) {
                 io::write_all(STDERR_FILENO, b"listing: not all of it could be written\n");
             }
         }
-        Told::Unread => {
+        Shown::Unread => {
             io::write_all(
                 STDERR_FILENO,
                 b"listing: standard input could not be read to its end\n",

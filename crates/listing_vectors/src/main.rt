@@ -1,7 +1,7 @@
 // Lists the map files of the folder that it is run in, 0000, 0001 and so on to the last, each as `listing` lists its input, and through the shortest buffer that
 // will do. An empty line follows each listing. What the Rust with ordered maps gives is in the file stdout beside src/, and behind it what is told of a folder,
 // which opens and cannot be read, and of a descriptor that is open for reading only.
-use intake::listing::Told;
+use intake::listing::Shown;
 use intake::listing::list_input;
 use intake::output::put_front;
 use libc::STDOUT_FILENO;
@@ -24,10 +24,10 @@ fn name_of(n: u64) -> [u8; 4]
 
 // What is told of what one descriptor gives, to another.
 fn tell(from: i32, to: i32, buffer: &mut [u8], out: &mut [u8]) -> bool {
-    let told = list_input(from, buffer, out);
-    match told {
-        Told::Listed(listed) => put_front(to, out, listed.count),
-        Told::Unread => io::write_all(to, b"unread\n"),
+    let shown = list_input(from, buffer, out);
+    match shown {
+        Shown::Listed(listed) => put_front(to, out, listed.count),
+        Shown::Unread => io::write_all(to, b"unread\n"),
     }
 }
 

@@ -10,8 +10,8 @@ use Rattle.answers.proofs.PassedLaws.{lacks-short, none-short}
 use Rattle.held.proofs.RoomLaws.{Enough}
 use Rattle.held.specs.Holds.{Tables}
 use Rattle.model.specs.Refusal.{short}
-use Rattle.intake.specs.Told.{lentOut}
-use Rattle.intake.proofs.ToldLaws.{out-long, told-lacking, told-map, told-refused, told-unread}
+use Rattle.intake.specs.Shown.{lentOut}
+use Rattle.intake.proofs.ShownLaws.{out-long, shown-lacking, shown-map, shown-refused, shown-unread}
 use Rattle.intake.proofs.listing.list_input.Statement.{statement}
 use Rattle.intake.proofs.listing.list_input.Tie as tie
 
@@ -63,7 +63,7 @@ refused-requires : tie.Need-refused-requires
 refused-requires c κs = search needs
 
 returns : tie.Need-returns
-returns c = let a = start (c .before .before) .args in told-lacking (a .buffer .now) (a .out .now) (c .refused .result) (c .refused .ensures) (sym (judged (c .before .before)) ∙ c .before .if1 .taken)
+returns c = let a = start (c .before .before) .args in shown-lacking (a .buffer .now) (a .out .now) (c .refused .result) (c .refused .ensures) (sym (judged (c .before .before)) ∙ c .before .if1 .taken)
 
 slice-aggregate-read-map : tie.Need-slice-aggregate-read-map
 slice-aggregate-read-map c = search needs
@@ -110,8 +110,8 @@ enum-known-end-2 c = search needs
 put-refusal-requires : tie.Need-put-refusal-requires
 put-refusal-requires c κs = search needs
 
-enum-told : tie.Need-enum-told
-enum-told c = search needs
+enum-shown : tie.Need-enum-told
+enum-shown c = search needs
 
 same-length : tie.Need-same-length
 same-length c = search needs
@@ -125,7 +125,7 @@ returns-2 c =
     let q = w .before .before .before .before .before .before .before .before in
     let p = reading (q .before .before) in
     let a = start (roomy p .before) .args in
-    told-map (a .out .now) (long (roomy p)) (p .read-map .ensures) rooms _ (q .end .given .0 .0) (lent p) _ (w .list-map .result) (q .end .given .1) (enough p)
+    shown-map (a .out .now) (long (roomy p)) (p .read-map .ensures) rooms _ (q .end .given .0 .0) (lent p) _ (w .list-map .result) (q .end .given .1) (enough p)
     (λ M h. (read p, h, (refl, refl, refl, refl, refl))) (w .list-map .ensures)
 
 same-length-3 : tie.Need-same-length-3
@@ -140,7 +140,7 @@ returns-3 c =
     let q = w .before .before .before in
     let p = reading (q .before .before) in
     let a = start (roomy p .before) .args in
-    told-refused (a .out .now) (long (roomy p)) (p .read-map .ensures) rooms _ (q .end2 .given .0 .0) (q .end2 .given .0 .1 .0) (w .put-refusal .result) (q .end2 .given .1)
+    shown-refused (a .out .now) (long (roomy p)) (p .read-map .ensures) rooms _ (q .end2 .given .0 .0) (q .end2 .given .0 .1 .0) (w .put-refusal .result) (q .end2 .given .1)
     (w .put-refusal .ensures)
 
 same-length-5 : tie.Need-same-length-5
@@ -149,7 +149,7 @@ same-length-5 c = search needs
 returns-4 : tie.Need-returns-4
 returns-4 c =
     let p = reading (c .before .before) in
-    told-unread (start (roomy p .before) .args .out .now) (long (roomy p)) (p .read-map .ensures) rooms _ refl
+    shown-unread (start (roomy p .before) .args .out .now) (long (roomy p)) (p .read-map .ensures) rooms _ refl
 
 pub list-input-spec : {M : Type 1} → statement M
 list-input-spec =
@@ -174,7 +174,7 @@ list-input-spec =
     list-map-requires
     enum-known-end-2
     put-refusal-requires
-    enum-told
+    enum-shown
     same-length
     same-length-2
     returns-2

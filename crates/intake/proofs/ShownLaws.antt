@@ -19,12 +19,12 @@ use Rattle.model.specs.Refusal.{short}
 use Rattle.print.specs.Printed.{Printed, lineRoom}
 use Rattle.report.proofs.CallLaws.{not-short}
 use Rattle.intake.specs.Taken.{EndsWith, Taken, lent}
-use Rattle.intake.specs.Told.{Tells, ToldInput, lentOut}
+use Rattle.intake.specs.Shown.{Tells, ShownInput, lentOut}
 use Rattle.intake.specs.declared.input.End.{End}
-use Rattle.intake.specs.declared.listing.Told.{Told}
+use Rattle.intake.specs.declared.listing.Shown.{Shown}
 
-pub told-lacking : (b o : List ℕ) (r : Count) → r ≡ refusedWith 9 → short (lentOut b o) ≡ true → ToldInput b b o o (Told.Listed r)
-told-lacking b o r e s = record { lacking = λ _. (rw e refl, refl, refl); told = λ f. absurd (true≢false (sym s ∙ f)) }
+pub shown-lacking : (b o : List ℕ) (r : Count) → r ≡ refusedWith 9 → short (lentOut b o) ≡ true → ShownInput b b o o (Shown.Listed r)
+shown-lacking b o r e s = record { lacking = λ _. (rw e refl, refl, refl); shown = λ f. absurd (true≢false (sym s ∙ f)) }
 
 pub out-long : (b o : List ℕ) → short (lentOut b o) ≡ false → (2307 ≤ length b) × (166656 ≤ length o)
 out-long b o s = let h = long-enough (lentOut b o) s in (h .0, h .1 .0)
@@ -34,19 +34,19 @@ module _ {b b′ : List ℕ} (o : List ℕ) (s : short (lentOut b o) ≡ false) 
   ended : (a : End) → e ≡ a → EndsWith a t t′
   ended a q = subst (λ (z : End). EndsWith z t t′) q (x .taken (not-short (lent b t) (out-long b o s .0, own)))
 
-  tells : (a : Told) → Tells a o o′ → ToldInput b b′ o o′ a
-  tells a h = record { lacking = λ g. absurd (true≢false (sym g ∙ s)); told = λ _. h }
+  tells : (a : Shown) → Tells a o o′ → ShownInput b b′ o o′ a
+  tells a h = record { lacking = λ g. absurd (true≢false (sym g ∙ s)); shown = λ _. h }
 
-  pub told-unread : o′ ≡ o → ToldInput b b′ o o′ Told.Unread
-  told-unread h = tells Told.Unread h
+  pub shown-unread : o′ ≡ o → ShownInput b b′ o o′ Shown.Unread
+  shown-unread h = tells Shown.Unread h
 
-  pub told-refused : (n f k : ℕ) → e ≡ End.Refused n f → Printed (leb lineRoom (length o)) lineRoom (refusedLine n f) 0 k o o′ → ToldInput b b′ o o′ (Told.Listed (record { refusal = 0; count = k }))
-  told-refused n f k q p =
+  pub shown-refused : (n f k : ℕ) → e ≡ End.Refused n f → Printed (leb lineRoom (length o)) lineRoom (refusedLine n f) 0 k o o′ → ShownInput b b′ o o′ (Shown.Listed (record { refusal = 0; count = k }))
+  shown-refused n f k q p =
       let y = ended (End.Refused n f) q in
-      tells (Told.Listed (record { refusal = 0; count = k })) (y .0, y .1 .few, list-refused (y .0) o (out-long b o s .1) o′ n f k (y .1 .reads) p)
+      tells (Shown.Listed (record { refusal = 0; count = k })) (y .0, y .1 .few, list-refused (y .0) o (out-long b o s .1) o′ n f k (y .1 .reads) p)
 
-  pub told-map : (m : Map) (lent : List (ℕ × ℕ)) (Hold : model.Map → Type 0) (r : Count) → e ≡ End.Map m → Enough lent → ((M : model.Map) → Holds m t′ M → Hold M)
-      → Listing (refuseMap (short lent) m false false) Hold (record { was = o; is = o′; wanted = λ M. listed (done M) } ∷ []) r → ToldInput b b′ o o′ (Told.Listed r)
-  told-map m lent Hold r q k h l =
+  pub shown-map : (m : Map) (lent : List (ℕ × ℕ)) (Hold : model.Map → Type 0) (r : Count) → e ≡ End.Map m → Enough lent → ((M : model.Map) → Holds m t′ M → Hold M)
+      → Listing (refuseMap (short lent) m false false) Hold (record { was = o; is = o′; wanted = λ M. listed (done M) } ∷ []) r → ShownInput b b′ o o′ (Shown.Listed r)
+  shown-map m lent Hold r q k h l =
       let y = ended (End.Map m) q in
-      tells (Told.Listed r) (y .0, y .1 .few, list-read (y .0) o (out-long b o s .1) o′ m t′ lent Hold r (y .1 .reads) k h l)
+      tells (Shown.Listed r) (y .0, y .1 .few, list-read (y .0) o (out-long b o s .1) o′ m t′ lent Hold r (y .1 .reads) k h l)
