@@ -19,9 +19,11 @@ use Rattle.model.specs.Refusal.{short}
 use Rattle.print.specs.Printed.{Printed, lineRoom}
 use Rattle.report.proofs.CallLaws.{not-short}
 use Rattle.intake.specs.Taken.{EndsWith, Taken, lent}
+use Rattle.intake.specs.Showed.{Puts, Showed}
 use Rattle.intake.specs.Shown.{Tells, ShownInput, lentOut}
 use Rattle.intake.specs.declared.input.End.{End}
 use Rattle.intake.specs.declared.listing.Shown.{Shown}
+use Rattle.intake.specs.declared.output.Put.{Put}
 
 pub shown-lacking : (b o : List ℕ) (r : Count) → r ≡ refusedWith 9 → short (lentOut b o) ≡ true → ShownInput b b o o (Shown.Listed r)
 shown-lacking b o r e s = record { lacking = λ _. (rw e refl, refl, refl); shown = λ f. absurd (true≢false (sym s ∙ f)) }
@@ -50,3 +52,7 @@ module _ {b b′ : List ℕ} (o : List ℕ) (s : short (lentOut b o) ≡ false) 
   shown-map m lent Hold r q k h l =
       let y = ended (End.Map m) q in
       tells (Shown.Listed r) (y .0, y .1 .few, list-read (y .0) o (out-long b o s .1) o′ m t′ lent Hold r (y .1 .reads) k h l)
+
+-- ---- what is shown is written
+pub showed : (b b′ o o′ : List ℕ) (a : Put) (s z : Shown) → ShownInput b b′ o o′ s → s ≡ z → Puts a z → Showed b b′ o o′ a
+showed b b′ o o′ a s z x e p = record { shown = z; input = subst (ShownInput b b′ o o′) e x; put = p }

@@ -1,9 +1,8 @@
 // Lists the map file on standard input to standard output. A file of any length is read through a buffer of fixed length, field by field. The listing is written
 // once it is whole: where the input cannot be read to its end, nothing is. Nothing half-printed passes for a listing: its first line says how many lines there
 // are, and each is ended.
-use intake::listing::Shown;
-use intake::listing::list_input;
-use intake::output::put_front;
+use intake::output::Put;
+use intake::output::show_input;
 use libc::STDERR_FILENO;
 use libc::STDIN_FILENO;
 use libc::STDOUT_FILENO;
@@ -11,14 +10,13 @@ use libc::STDOUT_FILENO;
 fn main() {
     let mut buffer = [0u8; 65536];
     let mut out = [0u8; 166656];
-    let shown = list_input(STDIN_FILENO, &mut buffer[..], &mut out[..]);
-    match shown {
-        Shown::Listed(listed) => {
-            if !put_front(STDOUT_FILENO, &out[..], listed.count) {
-                io::write_all(STDERR_FILENO, b"listing: not all of it could be written\n");
-            }
+    let put = show_input(STDIN_FILENO, STDOUT_FILENO, &mut buffer[..], &mut out[..]);
+    match put {
+        Put::Whole => {}
+        Put::Unwritten => {
+            io::write_all(STDERR_FILENO, b"listing: not all of it could be written\n");
         }
-        Shown::Unread => {
+        Put::Unread => {
             io::write_all(
                 STDERR_FILENO,
                 b"listing: standard input could not be read to its end\n",

@@ -1,9 +1,8 @@
 // Lists the map files of the folder that it is run in, 0000, 0001 and so on to the last, each as `listing` lists its input, and through the shortest buffer that
 // will do. An empty line follows each listing. What the Rust with ordered maps gives is in the file stdout beside src/, and behind it what is told of a folder,
 // which opens and cannot be read, and of a descriptor that is open for reading only.
-use intake::listing::Shown;
-use intake::listing::list_input;
-use intake::output::put_front;
+use intake::output::Put;
+use intake::output::show_input;
 use libc::STDOUT_FILENO;
 ghost use mathlib.Core.Path.{_≡_};
 ghost use Prim.Native.Nat.{_%_, _+_};
@@ -22,12 +21,13 @@ fn name_of(n: u64) -> [u8; 4]
     [digit(n / 1000), digit(n / 100), digit(n / 10), digit(n)]
 }
 
-// What is told of what one descriptor gives, to another.
+// Lists what one descriptor gives to another, and tells where that fails.
 fn tell(from: i32, to: i32, buffer: &mut [u8], out: &mut [u8]) -> bool {
-    let shown = list_input(from, buffer, out);
-    match shown {
-        Shown::Listed(listed) => put_front(to, out, listed.count),
-        Shown::Unread => io::write_all(to, b"unread\n"),
+    let put = show_input(from, to, buffer, out);
+    match put {
+        Put::Whole => true,
+        Put::Unwritten => io::write_all(STDOUT_FILENO, b"unwritten\n"),
+        Put::Unread => io::write_all(STDOUT_FILENO, b"unread\n"),
     }
 }
 
@@ -53,11 +53,9 @@ fn list_all(buffer: &mut [u8], out: &mut [u8]) {
 }
 
 // A listing that cannot be written.
-fn tell_nowhere(buffer: &mut [u8], out: &mut [u8]) {
+fn list_nowhere(buffer: &mut [u8], out: &mut [u8]) {
     let fd = os::open_read(b"0000");
-    if !tell(fd, fd, buffer, out) {
-        io::write_all(STDOUT_FILENO, b"unwritten\n");
-    }
+    tell(fd, fd, buffer, out);
     libc::close(fd);
 }
 
@@ -66,5 +64,5 @@ fn main() {
     let mut out = [0u8; 166656];
     list_all(&mut buffer[..], &mut out[..]);
     list_file(b".", &mut buffer[..], &mut out[..]);
-    tell_nowhere(&mut buffer[..], &mut out[..]);
+    list_nowhere(&mut buffer[..], &mut out[..]);
 }

@@ -110,8 +110,8 @@ enum-known-end-2 c = search needs
 put-refusal-requires : tie.Need-put-refusal-requires
 put-refusal-requires c κs = search needs
 
-enum-shown : tie.Need-enum-told
-enum-shown c = search needs
+enum-told : tie.Need-enum-told
+enum-told c = search needs
 
 same-length : tie.Need-same-length
 same-length c = search needs
@@ -174,7 +174,7 @@ list-input-spec =
     list-map-requires
     enum-known-end-2
     put-refusal-requires
-    enum-shown
+    enum-told
     same-length
     same-length-2
     returns-2
