@@ -16,6 +16,7 @@ use Rattle.model.specs.Refusal.{short}
 use Rattle.print.specs.Printed.{Printed, lineRoom}
 use Rattle.held.proofs.RoomLaws.{Enough}
 use Rattle.held.specs.Holds.{Holds, Tables}
+use Rattle.held.specs.declared.map.Map.{Map}
 use Rattle.file_report.specs.Filed.{EndedAs, Listed}
 use Rattle.file_report.specs.declared.file.Ended.{Ended}
 use Rattle.report.proofs.CallLaws.{call-accepted, held-accepted}
@@ -47,11 +48,11 @@ module _ (b o : List ℕ) where
     pub list-refused : (n f k : ℕ) → readFile b ≡ refused n f → Printed (leb lineRoom (length o)) lineRoom (refusedLine n f) 0 k o o′ → Listed b o o′ (record { refusal = 0; count = k })
     list-refused n f k e x = let p = put-front (x .done (le-leb 80 (length o) (omega arith)) .0) in list-done (record { refusal = 0; count = k }) (refused n f) e refl (p .0) (p .1)
 
-    pub list-read : (e : Ended) (t : Tables) (lent : List (ℕ × ℕ)) (Hold : model.Map → Type 0) (r : Count) → EndedAs zero e t (readFile b) → Enough lent
-        → ((M : model.Map) → Holds (e .map) t M → Hold M) → Listing (refuseMap (short lent) (e .map) false false) Hold (record { was = o; is = o′; wanted = λ M. listed (done M) } ∷ []) r
+    pub list-read : (m : Map) (t : Tables) (lent : List (ℕ × ℕ)) (Hold : model.Map → Type 0) (r : Count) → ((M : model.Map) × (readFile b ≡ done M) × Holds m t M) → Enough lent
+        → ((M : model.Map) → Holds m t M → Hold M) → Listing (refuseMap (short lent) m false false) Hold (record { was = o; is = o′; wanted = λ M. listed (done M) } ∷ []) r
         → Listed b o o′ r
-    list-read e t lent Hold r q k h l =
+    list-read m t lent Hold r q k h l =
         let g = read-accepted b (q .0) (q .1) in
-        let z = call-accepted lent (e .map) (held-accepted (e .map) t (q .0) (q .2) (g .0) (g .1)) k in
+        let z = call-accepted lent m (held-accepted m t (q .0) (q .2) (g .0) (g .1)) k in
         let w = l .answer (q .0) (h (q .0) (q .2)) z in
         list-done r (done (q .0)) (q .1) (l .refusal ∙ z) (w .0) (w .1)

@@ -1,10 +1,10 @@
 -- What `refill` ensures, by what became of the window: it is as it was, it is refused, or it was moved and filled. Assumes nothing.
-use Prim.Native.Nat.{ℕ, _+_, _-_, _≤_}
+use Prim.Native.Nat.{ℕ, _+_, _-_, _≤_, _<_}
 use native.Mathlib.Nat.{sub-zero}
 use native.Mathlib.Omega.{arith}
 use mathlib.Core.Path.{_≡_, refl, sym, ap, _∙_}
-use mathlib.Core.Bool.{Bool, true, false}
-use mathlib.Core.Logic.{_⊎_, inl, inr}
+use mathlib.Core.Bool.{Bool, true, false, true≢false}
+use mathlib.Core.Logic.{_⊎_, inl, inr, ⊎-elim}
 use mathlib.Core.List.{List, [], _++_, append-nil}
 use lib.ListN.{length, take, drop}
 use lib.Seq.{take-add}
@@ -19,6 +19,7 @@ unchanged w b h e =
       long = refl;
       kept = λ _. ([], sym (append-nil (bytesOf w b)));
       enough = λ _ _. e;
+      stays = λ _ _. (refl, refl);
       outside = λ out. absurd (out h);
     }
 
@@ -31,18 +32,20 @@ refused w r b out e =
       long = refl;
       kept = λ h. absurd (out h);
       enough = λ _ h. absurd (out h);
+      stays = λ _ h. absurd (out h);
       outside = λ _. refl;
     })
 
 -- the window's bytes were moved to the front, as in b₁, and what is behind them was filled
-pub filled : (w w′ : Window) (b b₁ b′ : List ℕ) → Within w b → length b′ ≡ length b
+pub filled : (w w′ : Window) (b b₁ b′ : List ℕ) → Within w b → w .ended ≡ false → w .end - w .from < wanted → length b′ ≡ length b
     → take (w .end - w .from) b₁ ≡ take (w .end - w .from) (drop (w .from) b) → Filled (w .end - w .from) w′ b₁ b′ → Refilled w w′ b b′
-filled w w′ b b₁ b′ within long moved f =
+filled w w′ b b₁ b′ within on narrow long moved f =
     record {
       inside = omega arith;
       long = long;
       kept = λ _. (take (w′ .end - n) (drop n b′), new);
       enough = λ big _. either (w′ .ended) refl big;
+      stays = λ e _. absurd (⊎-elim (λ t. true≢false (sym t ∙ on)) (λ l. omega arith) e);
       outside = λ out. absurd (out within);
     }
   where

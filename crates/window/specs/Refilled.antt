@@ -33,5 +33,7 @@ pub record Refilled (w w′ : Window) (b b′ : List ℕ) : Type 0 where
   pub long : length b′ ≡ length b
   pub kept : Within w b → (a : List ℕ) × (bytesOf w′ b′ ≡ bytesOf w b ++ a)
   pub enough : wanted ≤ length b → Within w b → (w′ .ended ≡ true) ⊎ (wanted ≤ w′ .end - w′ .from)
+  -- one with enough bytes, or behind which the input ended, stays as it is
+  pub stays : (w .ended ≡ true) ⊎ (wanted ≤ w .end - w .from) → Within w b → (w′ ≡ w) × (b′ ≡ b)
   -- a window that has no place in the buffer is told as a failure
   pub outside : (Within w b → ⊥) → w′ .failed ≡ true

@@ -1,5 +1,4 @@
 // A window of bytes that were read and not yet used.
-use libc::STDIN_FILENO;
 ghost use mathlib.Core.Path.{_≡_};
 ghost use mathlib.Core.Bool.{true};
 ghost use Prim.Native.Nat.{_-_, _≤_};
@@ -27,13 +26,13 @@ fn move_down(buffer: &mut [u8], from: usize, end: usize)
 }
 
 // Reads behind the first `have` bytes until the buffer is full, the input ends or a read fails.
-fn fill(buffer: &mut [u8], have: usize) -> Window
+fn fill(fd: i32, buffer: &mut [u8], have: usize) -> Window
     requires { ⌜ have ≤ length (now buffer) ⌝ }
     ensures { λ r. ⌜ Filled have r (now (buffer .entry)) (now (buffer .exit)) ⌝ }
 {
     let mut end = have;
     while end < buffer.len() {
-        let got = libc::read(STDIN_FILENO, &mut buffer[end..]);
+        let got = libc::read(fd, &mut buffer[end..]);
         let more = io::count(got, &buffer[end..]);
         if more == 0 {
             return Window {
@@ -65,7 +64,7 @@ fn nowhere() -> Window
 }
 
 // A window with 2,307 bytes at least, or all that the input has: no field of a map file that is accepted has more.
-pub fn refill(buffer: &mut [u8], window: Window) -> Window
+pub fn refill(fd: i32, buffer: &mut [u8], window: Window) -> Window
     ensures { λ r. ⌜ Refilled window r (now (buffer .entry)) (now (buffer .exit)) ⌝ }
 {
     let from = window.from;
@@ -83,5 +82,5 @@ pub fn refill(buffer: &mut [u8], window: Window) -> Window
         return window;
     }
     move_down(buffer, from, end);
-    fill(buffer, end - from)
+    fill(fd, buffer, end - from)
 }

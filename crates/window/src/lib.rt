@@ -1,2 +1,2 @@
-// Standard input through a buffer of fixed length.
+// What a descriptor gives, through a buffer of fixed length.
 pub mod input;

@@ -1,8 +1,8 @@
-//! Writes the map files that the program `listing_vectors` lists, and their listings as the Rust with ordered maps has them: `stdin` and `stdout`
+//! Writes the map files that the program `listing_vectors` lists, `data/0000` and so on, and their listings as the Rust with ordered maps has them, `stdout`,
 //! in the folder that is its first argument. The example maps come first, from the folder that is its second. The list is the
 //! same on every run. Standard error tells how many there are of each kind; where a kind is missing nothing is written.
 //!
-//! In `stdin` each file stands behind its length, four bytes, big-endian; in `stdout` an empty line follows each listing.
+//! In `stdout` an empty line follows each listing. Behind them is told what the program makes of a folder in place of a file, and of an output that cannot be written.
 use oracle::judged::{LEAST_SIZE, MOST_COORDINATE, MOST_SIZE};
 use oracle::layouts::{block, entries, hook, islands, moved, Layout};
 use oracle::listing::{listing, read};
@@ -35,7 +35,7 @@ const NEEDED: [(&str, usize); 14] = [
 
 #[derive(Default)]
 struct List {
-    files: Vec<u8>,
+    files: Vec<File>,
     listings: String,
     counts: BTreeMap<String, usize>,
 }
@@ -47,8 +47,7 @@ impl List {
 
     fn push(&mut self, file: &File) {
         let text = listing(file);
-        self.files.extend((file.len() as u32).to_be_bytes());
-        self.files.extend(file);
+        self.files.push(file.clone());
         self.listings += &text;
         self.listings += "\n";
         self.count("files".into());
@@ -213,14 +212,20 @@ fn main() {
         eprintln!("{count:6} {name}");
     }
     eprintln!(
-        "{:6} bytes of stdin, {} of stdout",
-        list.files.len(),
+        "{:6} bytes of files, {} of listings",
+        list.files.iter().map(Vec::len).sum::<usize>(),
         list.listings.len()
     );
     for (name, least) in NEEDED {
         let count = list.counts.get(name).copied().unwrap_or(0);
         assert!(count >= least, "{count} {name}, and {least} are needed");
     }
-    std::fs::write(format!("{folder}/stdin"), &list.files).unwrap();
-    std::fs::write(format!("{folder}/stdout"), &list.listings).unwrap();
+    let data = format!("{folder}/data");
+    let _ = std::fs::remove_dir_all(&data);
+    std::fs::create_dir(&data).unwrap();
+    for (n, file) in list.files.iter().enumerate() {
+        std::fs::write(format!("{data}/{n:04}"), file).unwrap();
+    }
+    let told = list.listings + "unread\n\nunwritten\n";
+    std::fs::write(format!("{folder}/stdout"), told).unwrap();
 }

@@ -1,40 +1,47 @@
 -- `list_all`: the buffers keep their lengths. Assumes nothing.
 use borrow.Author.Needs.{needs}
-use mathlib.Core.Path.{_≡_, _∙_, refl}
+use Prim.Native.Nat.{_-_}
+use native.Mathlib.Omega.{arith}
+use mathlib.Core.Path.{_≡_, _∙_, refl, ap, sym}
 use lib.ListN.{length}
 use Rattle.listing_vectors.proofs.list_all.Statement.{statement}
 use Rattle.listing_vectors.proofs.list_all.Tie as tie
 
 abbrev Inv-loop : tie.InvT-loop
-Inv-loop bytes₀ out₀ turns₀ bytes out turns = (length bytes ≡ length bytes₀) × (length out ≡ length out₀)
+Inv-loop buffer₀ out₀ n₀ more₀ buffer out n more = (length buffer ≡ length buffer₀) × (length out ≡ length out₀)
 
 abbrev μ-loop : tie.MeasureT-loop
-μ-loop bytes₀ out₀ turns₀ bytes out turns = turns
-
-listed : (p : tie.After-list-next Inv-loop μ-loop) → let l = p .before .before .before .before in let s = l .before .before .before in
-    (length (p .list-next .last .0) ≡ length (s .args .bytes .now)) × (length (p .list-next .last .1 .0) ≡ length (s .args .out .now))
-listed p = let i = p .before .before .before .before .loop .inv in (p .list-next .kept .0 ∙ i .0, p .list-next .kept .1 .0 ∙ i .1)
+μ-loop buffer₀ out₀ n₀ more₀ buffer out n more = 10000 - n
 
 loop-holds : tie.Need-loop-holds Inv-loop μ-loop
 loop-holds c = (refl, refl)
 
-list-next-requires : tie.Need-list-next-requires Inv-loop μ-loop
-list-next-requires c κs = tt
+name-of-requires : tie.Need-name-of-requires Inv-loop μ-loop
+name-of-requires c κs = tt
 
-sub-turns : tie.Need-sub-turns Inv-loop μ-loop
-sub-turns c = search needs
+slice-aggregate-list-file : tie.Need-slice-aggregate-list-file Inv-loop μ-loop
+slice-aggregate-list-file c = sym (ap length (c .before .name-of .ensures))
+
+list-file-requires : tie.Need-list-file-requires Inv-loop μ-loop
+list-file-requires c κs = tt
+
+add-n : tie.Need-add-n Inv-loop μ-loop
+add-n c = search needs
 
 loop-less : tie.Need-loop-less Inv-loop μ-loop
 loop-less c = search needs
 
 loop-again : tie.Need-loop-again Inv-loop μ-loop
-loop-again c = listed (c .before .before .before .before .before)
+loop-again c =
+    let p = c .before .before .before .before in
+    let i = p .before .before .before .before .before .before .before .loop .inv in
+    (p .list-file .kept .1 .0 ∙ i .0, p .list-file .kept .1 .1 .0 ∙ i .1)
 
 same-length : tie.Need-same-length Inv-loop μ-loop
-same-length c = listed (c .before .before .before .before .before) .0
+same-length c = c .before .before .loop .inv .0
 
 same-length-2 : tie.Need-same-length-2 Inv-loop μ-loop
-same-length-2 c = listed (c .before .before .before .before .before) .1
+same-length-2 c = c .before .before .loop .inv .1
 
 returns : tie.Need-returns Inv-loop μ-loop
 returns c = tt
@@ -55,8 +62,10 @@ list-all-spec =
     Inv-loop
     μ-loop
     loop-holds
-    list-next-requires
-    sub-turns
+    name-of-requires
+    slice-aggregate-list-file
+    list-file-requires
+    add-n
     loop-less
     loop-again
     same-length

@@ -110,7 +110,7 @@ returns-3 c =
     let p = reading (q .before) in
     let a = start (roomy p) .args in
     let e = p .read-file .result in
-    list-read (a .bytes .now) (a .out .now) (room (roomy p)) _ e (read p) (lent p) _ (w .list-map .result)
+    list-read (a .bytes .now) (a .out .now) (room (roomy p)) _ (e .map) (read p) (lent p) _ (w .list-map .result)
     (ended-done (e .refusal) e (read p) (readFile (a .bytes .now)) (q .if2 .left) (p .read-file .ensures)) (enough p) (λ M h. (read p, h, (refl, refl, refl, refl, refl))) (w .list-map .ensures)
 
 pub list-file-spec : {M : Type 1} → statement M

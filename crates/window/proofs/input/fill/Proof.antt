@@ -10,11 +10,11 @@ use Rattle.window.proofs.input.fill.Statement.{statement}
 use Rattle.window.proofs.input.fill.Tie as tie
 
 abbrev Inv-loop : tie.InvT-loop
-Inv-loop b₀ have end₀ b end =
+Inv-loop fd b₀ have end₀ b end =
     (have ≤ end) × (end ≤ length b) × (length b ≡ length b₀) × (take have b ≡ take have b₀)
 
 abbrev μ-loop : tie.MeasureT-loop
-μ-loop b₀ have end₀ b end = length b₀ - end
+μ-loop fd b₀ have end₀ b end = length b₀ - end
 
 loop-holds : tie.Need-loop-holds Inv-loop μ-loop
 loop-holds c = (omega arith, omega arith, refl, refl)

@@ -34,7 +34,7 @@ same-length : tie.Need-same-length
 same-length c = search needs
 
 returns-5 : tie.Need-returns-5
-returns-5 c = filled _ _ _ _ _ (omega arith) (omega arith) (c .before .before .before .before .before .before .move-down .ensures) (c .before .before .fill .ensures)
+returns-5 c = filled _ _ _ _ _ (omega arith) (c .before .before .before .before .before .before .before .before .before .if3 .left) (omega arith) (omega arith) (c .before .before .before .before .before .before .move-down .ensures) (c .before .before .fill .ensures)
 
 pub refill-spec : {M : Type 1} → statement M
 refill-spec =

@@ -1,0 +1,4 @@
+-- What the contracts of crate `intake` cite.
+pub mod Showed
+pub mod Shown
+pub mod Taken

@@ -1,0 +1,2 @@
+-- What the contracts of program `listing_vectors` cite.
+pub mod Names
