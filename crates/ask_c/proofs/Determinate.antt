@@ -12,7 +12,7 @@ use Rattle.map_questions.specs.Asks.{AsksNumbered}
 use Rattle.occupied.specs.Lists.{Lent, due}
 use Rattle.plane.specs.declared.point.Point.{Point}
 use Rattle.questions.proofs.NumberLaws.{above-unknown}
-use Rattle.questions.specs.Ask.{nowhere}
+use Rattle.questions.specs.Answer.{nowhere}
 use Rattle.questions.specs.Numbered.{badNumbered, questionOf}
 use Rattle.questions.specs.declared.numbered.Numbered.{Numbered}
 use Rattle.ask_c.specs.Told.{Asked, foundOf}

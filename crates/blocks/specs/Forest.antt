@@ -1,4 +1,4 @@
--- A forest over places, in which every place leads to a lesser one or to itself: union by search. Definitions only.
+-- Between functions: a forest over places, in which every place leads to a lesser one or to itself: union by search. Definitions only.
 use Prim.Native.Nat.{ℕ, _≤_, _<_}
 use mathlib.Core.Path.{_≡_}
 use mathlib.Core.Logic.{_≢_}

@@ -1,4 +1,4 @@
--- What the trees of a forest mean, over the places of cells from the last down: places are of one tree exactly if their cells are linked. Definitions only.
+-- Between functions: what the trees of a forest mean, over the places of cells from the last down: places are of one tree exactly if their cells are linked. Definitions only.
 use Prim.Native.Nat.{ℕ, suc, _+_, _≤_, _<_}
 use mathlib.Core.Path.{_≡_}
 use mathlib.Core.List.{List}

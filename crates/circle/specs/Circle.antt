@@ -1,4 +1,4 @@
--- The circle test of one cell by what is worked out once for all cells. Definitions only; proofs/CircleLaws.antt shows that it is the model's `inCircle` for the cells that its loops reach.
+-- Between functions: the circle test of one cell by what is worked out once for all cells. Definitions only; proofs/CircleLaws.antt shows that it is the model's `inCircle` for the cells that its loops reach.
 use Prim.Native.Nat.{ℕ}
 use mathlib.Core.Bool.{Bool, false, not, cond, _&&_, _||_}
 use lib.IntN.{ℤ, pos}

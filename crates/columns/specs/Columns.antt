@@ -1,4 +1,4 @@
--- A column of keys, and its rows from one on (sparse_grid.rs, `occupancy_map`: each column with the set of its rows). Definitions only.
+-- Between functions: a column of keys, and its rows from one on (sparse_grid.rs, `occupancy_map`: each column with the set of its rows). Definitions only.
 use Prim.Native.Nat.{ℕ}
 use mathlib.Core.Path.{_≡_}
 use mathlib.Core.List.{List}

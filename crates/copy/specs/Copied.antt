@@ -1,4 +1,4 @@
--- A list written to the front of another. Definitions only.
+-- Between functions: a list written to the front of another. Definitions only.
 use Prim.Native.Nat.{ℕ, _≤_, _<_}
 use mathlib.Core.Path.{_≡_}
 use mathlib.Core.List.{List, _++_}

@@ -1,4 +1,4 @@
--- One corner as a number. Definitions only.
+-- Between functions: one corner as a number. Definitions only.
 use Prim.Native.Nat.{ℕ}
 use mathlib.Core.Bool.{cond, _||_}
 use mathlib.Core.List.{List}

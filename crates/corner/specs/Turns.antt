@@ -1,4 +1,4 @@
--- What one turned cell adds to the corner changes of a batch: the contracts of the steps of `corner_changes` cite it. Definitions only.
+-- Between functions: what one turned cell adds to the corner changes of a batch: the contracts of the steps of `corner_changes` cite it. Definitions only.
 use Prim.Native.Nat.{ℕ, _+_}
 use mathlib.Core.Path.{_≡_}
 use mathlib.Core.Bool.{cond, _||_}

@@ -1,4 +1,4 @@
--- The 5 by 5 cells around a cell as words of bits, and what is read off them at once for every cell. Definitions only.
+-- Between functions: the 5 by 5 cells around a cell as words of bits, and what is read off them at once for every cell. Definitions only.
 use Prim.Native.Nat.{ℕ, zero, suc, _+_, _*_, _/_, _%_, _<_}
 use mathlib.Core.Path.{_≡_}
 use mathlib.Core.Bool.{Bool, cond}

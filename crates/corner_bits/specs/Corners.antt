@@ -1,4 +1,4 @@
--- A corner of the code, and its number. Definitions only.
+-- Between functions: a corner of the code, and its number. Definitions only.
 use Prim.Native.Nat.{ℕ}
 use Rattle.model.specs.Cell.{Dir, SW, SE, NW, NE}
 use Rattle.corner_bits.specs.declared.Corner.{Corner}

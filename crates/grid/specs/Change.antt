@@ -1,4 +1,4 @@
--- A batch on a floor, whole: its refusals, its answer, and every lent table afterwards. Definitions only.
+-- For floors, at no border: a batch on a floor, whole: its refusals, its answer, and every lent table afterwards. Definitions only.
 use Prim.Native.Nat.{ℕ, suc, _≤_}
 use mathlib.Core.Path.{_≡_}
 use mathlib.Core.Logic.{_⊎_}

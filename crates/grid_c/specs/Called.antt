@@ -1,4 +1,4 @@
--- A batch on a floor, with its counts in a lent table. Definitions only.
+-- For floors, at no border: a batch on a floor, with its counts in a lent table. Definitions only.
 use Prim.Native.Nat.{ℕ, zero, suc, _≤_, _<_}
 use mathlib.Core.Path.{_≡_}
 use mathlib.Core.Logic.{_⊎_}

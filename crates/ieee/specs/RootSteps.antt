@@ -1,4 +1,4 @@
--- What the steps inside `root` promise each other. Definitions only; nothing outside this crate cites them.
+-- Between functions: what the steps inside `root` promise each other. Definitions only; nothing outside this crate cites them.
 use Prim.Native.Nat.{ℕ, _+_, _-_, _*_, _/_, _%_, _^_, _≤_, _<_}
 use mathlib.Core.Bool.{cond}
 use lib.Dec.{ltb}

@@ -1,4 +1,4 @@
--- What the steps inside `root_threshold` promise each other. Definitions only; nothing outside this crate cites them.
+-- Between functions: what the steps inside `root_threshold` promise each other. Definitions only; nothing outside this crate cites them.
 use mathlib.Core.Path.{_≡_}
 use mathlib.Core.Bool.{true, false}
 use Prim.Native.Nat.{ℕ, _*_, _^_, _≤_, _<_}

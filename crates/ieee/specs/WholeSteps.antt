@@ -1,4 +1,4 @@
--- What a step of `column_of` and `column_up` answers. Definitions only.
+-- Between functions: what a step of `column_of` and `column_up` answers. Definitions only.
 use Prim.Native.Nat.{ℕ, _-_, _^_}
 use mathlib.Core.Bool.{cond}
 use lib.Ieee.{Float, lt, isNan}

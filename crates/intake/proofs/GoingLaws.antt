@@ -20,7 +20,8 @@ use Rattle.reader.specs.Moves.{begun}
 use Rattle.reader.specs.declared.state.Reader.{Reader}
 use Rattle.reader.specs.declared.state.Reading.{Reading}
 use Rattle.report.proofs.CallLaws.{not-short}
-use Rattle.window.specs.Refilled.{Refilled, Within, bytesOf, wanted}
+use Rattle.window.specs.Refilled.{Refilled, Within, bytesOf}
+use Rattle.window.specs.Wanted.{wanted}
 use Rattle.window.specs.declared.input.Window.{Window}
 use Rattle.intake.specs.Taken.{Came, EndsWith, Taken, lent}
 use Rattle.intake.specs.declared.input.End.{End}

@@ -8,7 +8,7 @@ use Rattle.answers.specs.Asking.{refusedWith}
 use Rattle.file_report.specs.Filed.{Listed}
 use Rattle.model.specs.Refusal.{short}
 use Rattle.report.specs.Reported.{needListing}
-use Rattle.window.specs.Refilled.{wanted}
+use Rattle.window.specs.Wanted.{wanted}
 use Rattle.intake.specs.declared.listing.Shown.{Shown}
 
 -- each length with its need: the buffer's through which the input is read, and the listing's

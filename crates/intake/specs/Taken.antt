@@ -1,4 +1,4 @@
--- The map that a descriptor gives, in lent tables (document 01, 'Map file and listing'). What bytes come is open; the rest is the model's reading of them. Definitions only.
+-- Between functions: the map that a descriptor gives, in lent tables (document 01, 'Map file and listing'). What bytes come is open; the rest is the model's reading of them. Definitions only.
 use Prim.Native.Nat.{ℕ, _^_, _<_}
 use mathlib.Core.Path.{_≡_}
 use mathlib.Core.Bool.{true, false}
@@ -10,7 +10,7 @@ use Rattle.model.specs.MapFile.{readFile}
 use Rattle.model.specs.Refusal.{short}
 use Rattle.reader.specs.Moves.{begun}
 use Rattle.reader.specs.declared.state.Reading.{Reading}
-use Rattle.window.specs.Refilled.{wanted}
+use Rattle.window.specs.Wanted.{wanted}
 use Rattle.intake.specs.declared.input.End.{End}
 
 -- each length with its need: the buffer's, and the tables'

@@ -1,4 +1,4 @@
--- The names of its files. Definitions only.
+-- For replayed vectors: the names of its files. Definitions only.
 use Prim.Native.Nat.{ℕ, _+_, _/_, _%_}
 use mathlib.Core.List.{List, [], _∷_}
 

@@ -23,7 +23,7 @@ use Rattle.question.specs.Walk.{found, foundAs}
 use Rattle.question.specs.declared.search.Found.{Found}
 use Rattle.question.specs.declared.search.Question.{Question}
 use Rattle.questions.proofs.AskLaws.{search-placed}
-use Rattle.questions.specs.Ask.{cellAt, nowhere, placed}
+use Rattle.questions.specs.Answer.{cellAt, nowhere, placed}
 use Rattle.questions.specs.declared.ask.Answer.{Answer}
 use Rattle.questions.specs.declared.ask.Place.{Place}
 use Rattle.table.specs.Tables.{All}

@@ -10,7 +10,7 @@ use Rattle.model.specs.Refusal.{badQuestion}
 use Rattle.occupied.specs.Lists.{Lent, due}
 use Rattle.question.specs.Question.{asked}
 use Rattle.question.specs.declared.search.Question.{Question}
-use Rattle.questions.specs.Ask.{cellAt, nowhere, placed}
+use Rattle.questions.specs.Answer.{cellAt, nowhere, placed}
 use Rattle.questions.specs.declared.ask.Answer.{Answer}
 use Rattle.questions.specs.declared.numbered.Numbered.{Numbered}
 

@@ -1,4 +1,4 @@
--- Runs of calls that read a file through windows, as the contracts alone have them: the fold that a program with a fixed buffer runs. Definitions only.
+-- Between functions: runs of calls that read a file through windows, as the contracts alone have them: the fold that a program with a fixed buffer runs. Definitions only.
 use Prim.Native.Nat.{ℕ}
 use mathlib.Core.List.{List, [], _++_}
 use lib.ListN.{drop}

@@ -1,4 +1,4 @@
--- The points that the marks of some corners leave, as they are listed. Definitions only.
+-- Between functions: the points that the marks of some corners leave, as they are listed. Definitions only.
 use Prim.Native.Nat.{ℕ, _+_, _*_, _^_, _≤_, _<_}
 use mathlib.Core.Path.{_≡_}
 use mathlib.Core.Bool.{cond}

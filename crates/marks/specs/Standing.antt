@@ -1,4 +1,4 @@
--- What is kept of a key while the marks are made. Definitions only; proofs/StandingLaws.antt ties it to the closed form of `model`.
+-- Between functions: what is kept of a key while the marks are made. Definitions only; proofs/StandingLaws.antt ties it to the closed form of `model`.
 use Prim.Native.Nat.{ℕ, suc, _+_, _*_, _<_}
 use mathlib.Core.Bool.{Bool, not, cond, _&&_, _||_}
 use mathlib.Core.List.{List, [], _∷_}

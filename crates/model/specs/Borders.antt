@@ -1,4 +1,4 @@
--- Examples of this port's own, at the places where a wrong definition would still look right. proofs/Examples.antt shows that all pass.
+-- For theorems of our own: examples of this port's own, at the places where a wrong definition would still look right. proofs/Examples.antt shows that all pass.
 use Prim.Native.Nat.{ℕ}
 use Prim.Native.String.{String}
 use mathlib.Core.Bool.{Bool, true, false, not, _&&_, _||_}

@@ -1,4 +1,4 @@
--- The closed form of an update: the points and pairs that it leaves, told from the cells afterwards, the changes, the marks and the old layer (`Layer.antt`'s four phases are what is believed; proofs/ClosedForm.antt shows that they agree). Definitions only.
+-- For theorems of our own: the closed form of an update: the points and pairs that it leaves, told from the cells afterwards, the changes, the marks and the old layer (`Layer.antt`'s four phases are what is believed; proofs/ClosedForm.antt shows that they agree). Definitions only.
 use Prim.Native.Nat.{ℕ, _<_}
 use mathlib.Core.Path.{_≡_}
 use mathlib.Core.Bool.{Bool, true, false, not, cond, _&&_, _||_}

@@ -1,4 +1,4 @@
--- What the words of a line stand for: digits, patterns, floats and signed numbers. Definitions only.
+-- For replayed vectors: what the words of a line stand for: digits, patterns, floats and signed numbers. Definitions only.
 use Prim.Native.Nat.{ℕ, suc, _+_, _-_, _*_, _%_, _^_}
 use mathlib.Core.Bool.{cond, _&&_}
 use mathlib.Core.List.{List, [], _∷_}

@@ -1,4 +1,4 @@
--- What a shape takes, by columns and rows, and what a test finds. Definitions only; proofs/TakenLaws.antt shows that they are the model's cells.
+-- Between functions: what a shape takes, by columns and rows, and what a test finds. Definitions only; proofs/TakenLaws.antt shows that they are the model's cells.
 use Prim.Native.Nat.{ℕ}
 use mathlib.Core.Bool.{Bool, true, false, cond, _&&_}
 use mathlib.Core.Option.{Option, none, some}

@@ -1,4 +1,4 @@
--- What a line asks (oracle/src/bin/grid_vectors.rs and map_vectors/answers.rs say which letter has which operands). Definitions only.
+-- For replayed vectors: what a line asks (oracle/src/bin/grid_vectors.rs and map_vectors/answers.rs say which letter has which operands). Definitions only.
 use Prim.Native.Nat.{ℕ, _+_}
 use mathlib.Core.Bool.{cond}
 use mathlib.Core.List.{List}

@@ -19,7 +19,8 @@ use Rattle.table.specs.Tables.{All}
 use Rattle.floor.specs.Floor.{Holds}
 use Rattle.floor.specs.declared.floor.Floor.{Floor}
 use Rattle.floor.proofs.FloorLaws.{holds-cells}
-use Rattle.questions.specs.Ask.{Asked, cellAt, nowhere, placed, refuseAsk, refuseFloor}
+use Rattle.questions.specs.Answer.{cellAt, nowhere, placed}
+use Rattle.questions.specs.Ask.{Asked, refuseAsk, refuseFloor}
 use Rattle.question.specs.Question.{asked}
 use Rattle.question.specs.Walk.{found, foundAs, keyed}
 use Rattle.questions.specs.declared.ask.Answer.{Answer}

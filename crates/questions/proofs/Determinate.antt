@@ -8,7 +8,8 @@ use lib.IntN.{ℤ}
 use lib.ListN.{length}
 use Rattle.floor.specs.Floor.{Holds}
 use Rattle.floor.specs.declared.floor.Floor.{Floor}
-use Rattle.questions.specs.Ask.{Asked, placed, refuseAsk}
+use Rattle.questions.specs.Answer.{placed}
+use Rattle.questions.specs.Ask.{Asked, refuseAsk}
 use Rattle.question.specs.Question.{asked}
 use Rattle.questions.specs.declared.ask.Answer.{Answer}
 use Rattle.questions.specs.declared.ask.Place.{Place}

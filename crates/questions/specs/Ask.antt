@@ -1,14 +1,11 @@
--- A question put to a floor: its refusals and its answer. Definitions only.
+-- For floors, at no border: a question put to a floor, its refusals and its answer. Definitions only.
 use Prim.Native.Nat.{ℕ, suc}
 use mathlib.Core.Path.{_≡_}
 use mathlib.Core.Bool.{Bool, false}
 use mathlib.Core.List.{List, [], _∷_}
-use mathlib.Core.Option.{Option, none, some}
 use lib.Dec.{ltb}
-use lib.IntN.{ℤ}
 use lib.ListN.{length}
 use lib.Ieee.{Float}
-use Rattle.model.specs.Cell.{xOf, yOf}
 use Rattle.model.specs.Limits.{maxCells}
 use Rattle.model.specs.Refusal.{verdict, short, badSize, badQuestion}
 use Rattle.model.specs.Shape.{ask}
@@ -16,18 +13,9 @@ use Rattle.model.specs.Shape as model
 use Rattle.floor.specs.Floor.{Holds}
 use Rattle.floor.specs.declared.floor.Floor.{Floor}
 use Rattle.question.specs.Question.{asked}
+use Rattle.questions.specs.Answer.{cellAt, nowhere, placed}
 use Rattle.questions.specs.declared.ask.Answer.{Answer}
-use Rattle.questions.specs.declared.ask.Place.{Place}
 use Rattle.question.specs.declared.search.Question.{Question}
-
--- the paper's values: a cell, or none
-abbrev pub placed : Place → Option (ℤ × ℤ)
-placed Place.Nothing = none
-placed (Place.At c) = some (c .x, c .y)
-
-abbrev pub cellAt : Option ℕ → Option (ℤ × ℤ)
-cellAt none = none
-cellAt (some k) = some (xOf k, yOf k)
 
 -- the model's refusals of a question, for a floor of which no layer is asked: the lent places, the cell size, how many cells there are, whether a query number is bad
 unfoldable pub refuseFloor : ℕ → Float → ℕ → Bool → ℕ
@@ -47,10 +35,6 @@ refuseFloor room c n bad =
 
 abbrev pub refuseAsk : ℕ → Float → ℕ → model.Question → ℕ
 refuseAsk room c n q = refuseFloor room c n (badQuestion q)
-
--- a refused call answers its number, and nothing else
-abbrev pub nowhere : ℕ → Answer
-nowhere n = record { refusal = n; cell = Place.Nothing }
 
 pub record Asked (floor : Floor) (t : List ℕ) (q : Question) (r : Answer) : Type 0 where
   pub refusal : r .refusal ≡ refuseAsk (length t) (floor .size) (floor .cells) (asked q)

@@ -1,3 +1,4 @@
 -- What the contracts of crate `questions` cite.
+pub mod Answer
 pub mod Ask
 pub mod Numbered

@@ -7,7 +7,8 @@ use question::search::Found;
 use question::search::Question;
 use question::search::search;
 ghost use mathlib.Core.Path.{_≡_};
-ghost use Rattle.questions.specs.Ask.{Asked, cellAt, nowhere, placed, refuseFloor};
+ghost use Rattle.questions.specs.Answer.{cellAt, nowhere, placed};
+ghost use Rattle.questions.specs.Ask.{Asked, refuseFloor};
 ghost use Rattle.question.specs.Walk.{found};
 
 // `Option<Cell>`.

@@ -1,4 +1,4 @@
--- The states of a reader (document 01, 'Map file and listing': fields are numbered from 0). Definitions only.
+-- Between functions: the states of a reader (document 01, 'Map file and listing': fields are numbered from 0). Definitions only.
 use Prim.Native.Nat.{_+_, _%_, _^_}
 use lib.Ieee.{Float}
 use Rattle.fields.specs.declared.head.Expected.{Expected}

@@ -1,4 +1,4 @@
--- The near test of one segment against many cells: a cell outside of the spans is answered at once. Definitions only; proofs/SpanLaws.antt shows that nothing near is left out.
+-- Between functions: the near test of one segment against many cells: a cell outside of the spans is answered at once. Definitions only; proofs/SpanLaws.antt shows that nothing near is left out.
 use Prim.Native.Nat.{ℕ, _/_, _%_, _^_, _<_}
 use mathlib.Core.Path.{_≡_}
 use mathlib.Core.Bool.{Bool, false, _&&_}

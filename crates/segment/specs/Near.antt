@@ -1,4 +1,4 @@
--- The near test by squares. Definitions only; proofs/NearLaws.antt shows that it is the model's `passesNear`.
+-- Between functions: the near test by squares. Definitions only; proofs/NearLaws.antt shows that it is the model's `passesNear`.
 use Prim.Native.Nat.{ℕ}
 use mathlib.Core.Path.{_≡_}
 use mathlib.Core.Bool.{Bool, true, false, cond}

@@ -1,4 +1,4 @@
--- How the spans of a near test are found, along one axis: bounds that the near test's own steps hold at. Definitions only; proofs/AsideLaws.antt shows that they hold further out.
+-- Between functions: how the spans of a near test are found, along one axis: bounds that the near test's own steps hold at. Definitions only; proofs/AsideLaws.antt shows that they hold further out.
 use Prim.Native.Nat.{_+_, _-_, _<_}
 use mathlib.Core.Path.{_≡_}
 use mathlib.Core.Bool.{true, cond}

@@ -1,4 +1,4 @@
--- A segment with its length and unit vector, and the square of a point's distance from it: `distance_from_point` (occupancy/util.rs) before its root. Definitions only;
+-- Between functions: a segment with its length and unit vector, and the square of a point's distance from it: `distance_from_point` (occupancy/util.rs) before its root. Definitions only;
 -- proofs/SquaredLaws.antt shows that the model's distance is the root of it.
 use mathlib.Core.Bool.{cond}
 use lib.Ieee.{Float, lt}

@@ -1,4 +1,4 @@
--- What blocks the points after the changes. Definitions only.
+-- Between functions: what blocks the points after the changes. Definitions only.
 use Prim.Native.Nat.{ℕ, _-_, _≤_}
 use mathlib.Core.Path.{_≡_}
 use mathlib.Core.Bool.{cond}

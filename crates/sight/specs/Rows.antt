@@ -1,4 +1,4 @@
--- The table of pairs while it is filled, row by row. Definitions only.
+-- Between functions: the table of pairs while it is filled, row by row. Definitions only.
 use Prim.Native.Nat.{ℕ, _+_, _-_, min}
 use mathlib.Core.Bool.{cond}
 use mathlib.Core.Option.{Option, none}

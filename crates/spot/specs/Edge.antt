@@ -1,4 +1,4 @@
--- Columns and rows as stretches of the plane. Definitions only.
+-- Between functions: columns and rows as stretches of the plane. Definitions only.
 use Prim.Native.Nat.{ℕ}
 use lib.Ieee.{Float, binary64, mul, ofInt}
 use Rattle.ieee.specs.Whole.{unbias}

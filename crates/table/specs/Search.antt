@@ -1,4 +1,4 @@
--- A search in a table by powers of two. Definitions only.
+-- Between functions: a search in a table by powers of two. Definitions only.
 use Prim.Native.Nat.{ℕ, _+_, _-_, _*_, _≤_}
 use mathlib.Core.Path.{_≡_}
 use mathlib.Core.Bool.{cond}

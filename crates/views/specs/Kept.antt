@@ -1,4 +1,4 @@
--- Which cells the loops of crate `views` keep: `steps` is the model's `neighbours` where the square is free, `marked` its `fromPoint` and `seen` its `fromElsewhere` (occupancy/mod.rs, `neighbors`, `calculate_visibility`). Definitions only.
+-- Between functions: which cells the loops of crate `views` keep: `steps` is the model's `neighbours` where the square is free, `marked` its `fromPoint` and `seen` its `fromElsewhere` (occupancy/mod.rs, `neighbors`, `calculate_visibility`). Definitions only.
 use Prim.Native.Nat.{ℕ}
 use mathlib.Core.Bool.{cond, _&&_}
 use mathlib.Core.List.{List, [], _∷_}

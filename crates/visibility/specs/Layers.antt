@@ -1,4 +1,4 @@
--- A layer as the lent tables hold it. Definitions only.
+-- Between functions: a layer as the lent tables hold it. Definitions only.
 use Prim.Native.Nat.{ℕ}
 use mathlib.Core.List.{List, [], _∷_}
 use Rattle.marks.specs.Standing.{begun, standing}

@@ -1,4 +1,4 @@
--- The four tables of a layer, drawn anew. Definitions only.
+-- Between functions: the four tables of a layer, drawn anew. Definitions only.
 use Prim.Native.Nat.{ℕ, _≤_}
 use mathlib.Core.Path.{_≡_}
 use mathlib.Core.List.{List, _++_}

@@ -1,4 +1,4 @@
--- A batch that nothing but the number of points may refuse. Definitions only.
+-- Between functions: a batch that nothing but the number of points may refuse. Definitions only.
 use Prim.Native.Nat.{ℕ, _<_, _≤_}
 use mathlib.Core.Path.{_≡_}
 use mathlib.Core.Logic.{_⊎_}

@@ -9,7 +9,8 @@ use mathlib.Core.List.{List, [], _++_, append-nil}
 use lib.ListN.{length, take, drop}
 use lib.Seq.{take-add}
 use Rattle.window.specs.declared.input.Window.{Window}
-use Rattle.window.specs.Refilled.{Filled, Refilled, Within, bytesOf, wanted}
+use Rattle.window.specs.Refilled.{Filled, Refilled, Within, bytesOf}
+use Rattle.window.specs.Wanted.{wanted}
 
 -- the window as it was
 pub unchanged : (w : Window) (b : List ℕ) → Within w b → (w .ended ≡ true) ⊎ (wanted ≤ w .end - w .from) → Refilled w w b b

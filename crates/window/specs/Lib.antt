@@ -1,2 +1,3 @@
 -- What the contracts of crate `window` cite.
 pub mod Refilled
+pub mod Wanted

@@ -1,10 +1,11 @@
--- A window of a buffer: the bytes that were read and not yet used. Definitions only.
+-- Between functions: a window of a buffer: the bytes that were read and not yet used. Definitions only.
 use Prim.Native.Nat.{ℕ, _-_, _≤_}
 use mathlib.Core.Path.{_≡_}
 use mathlib.Core.Logic.{_⊎_}
 use mathlib.Core.Bool.{true, false}
 use mathlib.Core.List.{List, _++_}
 use lib.ListN.{drop, length, take}
+use Rattle.window.specs.Wanted.{wanted}
 use Rattle.window.specs.declared.input.Window.{Window}
 
 -- the bytes from one place up to another
@@ -14,10 +15,6 @@ bytesOf w b = take (w .end - w .from) (drop (w .from) b)
 -- the window w lies within the buffer b
 abbrev pub Within : Window → List ℕ → Type 0
 Within w b = (w .from ≤ w .end) × (w .end ≤ length b)
-
--- a tag, a length, and the longest value that fits (`fields`, Windows.antt)
-abbrev pub wanted : ℕ
-wanted = 2307
 
 -- b became b′, of which r has the first `have` bytes still and what came behind them; it has all of b′ unless the input ended
 pub record Filled (have : ℕ) (r : Window) (b b′ : List ℕ) : Type 0 where

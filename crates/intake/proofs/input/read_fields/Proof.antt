@@ -10,7 +10,8 @@ use lib.ListN.{length}
 use Rattle.held.proofs.RoomLaws.{SameLong, long-enough, same-both, same-none}
 use Rattle.held.specs.Holds.{Tables, needs as needsOf}
 use Rattle.model.specs.Refusal.{short}
-use Rattle.window.specs.Refilled.{Within, bytesOf, wanted}
+use Rattle.window.specs.Refilled.{Within, bytesOf}
+use Rattle.window.specs.Wanted.{wanted}
 use Rattle.window.specs.declared.input.Window.{Window}
 use Rattle.intake.proofs.GoingLaws.{Going, behind, go-done, go-fill, go-more, go-refused, go-start, tables-long, within-long}
 use Rattle.intake.proofs.input.read_fields.Statement.{statement}

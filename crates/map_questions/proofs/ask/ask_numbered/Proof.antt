@@ -8,7 +8,7 @@ use Rattle.occupied.specs.Lists.{Lent, due}
 use Rattle.occupied.proofs.CellLaws.{used}
 use Rattle.question.specs.Question.{asked}
 use Rattle.question.specs.declared.search.Question.{Question}
-use Rattle.questions.specs.Ask.{nowhere}
+use Rattle.questions.specs.Answer.{nowhere}
 use Rattle.questions.specs.Numbered.{badNumbered}
 use Rattle.questions.specs.declared.numbered.Numbered.{Numbered}
 use Rattle.map_questions.specs.Asks.{AsksNumbered}
