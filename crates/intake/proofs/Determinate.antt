@@ -4,7 +4,7 @@ use native.Mathlib.Omega.{arith}
 use mathlib.Core.Path.{_≡_, refl, sym, ap, _∙_, subst}
 use mathlib.Core.Logic.{inr}
 use mathlib.Core.Bool.{Bool, true, false}
-use mathlib.Core.List.{List, [], _++_, append-assoc}
+use mathlib.Core.List.{List, _++_, append-assoc}
 use lib.ListN.{drop, length, length-append, length-drop}
 use lib.Seq.{drop-append-le}
 use Rattle.fields.proofs.WindowLaws.{wide-field}

@@ -1,6 +1,5 @@
 -- What is listed of an input that was read to its end. Assumes nothing.
 use Prim.Native.Nat.{ℕ, _≤_}
-use native.Mathlib.Omega.{arith}
 use mathlib.Core.Path.{_≡_, refl, sym, _∙_, subst}
 use mathlib.Core.Bool.{true, false, true≢false}
 use mathlib.Core.List.{List, [], _∷_}
@@ -18,9 +17,9 @@ use Rattle.model.specs.MapFile.{done}
 use Rattle.model.specs.Refusal.{short}
 use Rattle.print.specs.Printed.{Printed, lineRoom}
 use Rattle.report.proofs.CallLaws.{not-short}
-use Rattle.intake.specs.Taken.{EndsWith, Taken, lent}
 use Rattle.intake.specs.Showed.{Puts, Showed}
-use Rattle.intake.specs.Shown.{Tells, ShownInput, lentOut}
+use Rattle.intake.specs.Shown.{ShownInput, Tells, lentOut}
+use Rattle.intake.specs.Taken.{EndsWith, Taken, lent}
 use Rattle.intake.specs.declared.input.End.{End}
 use Rattle.intake.specs.declared.listing.Shown.{Shown}
 use Rattle.intake.specs.declared.output.Put.{Put}

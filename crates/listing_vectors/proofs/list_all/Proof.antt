@@ -1,7 +1,6 @@
 -- `list_all`: the buffers keep their lengths. Assumes nothing.
 use borrow.Author.Needs.{needs}
 use Prim.Native.Nat.{_-_}
-use native.Mathlib.Omega.{arith}
 use mathlib.Core.Path.{_≡_, _∙_, refl, ap, sym}
 use lib.ListN.{length}
 use Rattle.listing_vectors.proofs.list_all.Statement.{statement}

@@ -1,18 +1,17 @@
 -- `input::read_fields`: the fields of the windows in turn, to a refusal or to the end of the input. Assumes nothing.
 use borrow.Author.Needs.{needs}
-use Prim.Native.Nat.{ℕ, _+_, _-_, _^_, _≤_, _<_}
+use Prim.Native.Nat.{ℕ, _-_, _^_, _≤_, _<_}
 use native.Mathlib.Omega.{arith}
 use mathlib.Core.Logic.{_⊎_, ⊎-elim, inl, inr}
-use mathlib.Core.Path.{_≡_, _∙_, refl, sym, subst}
+use mathlib.Core.Path.{_≡_, _∙_, refl}
 use mathlib.Core.Bool.{true, false}
-use mathlib.Core.List.{List, []}
+use mathlib.Core.List.{List}
 use lib.ListN.{length}
-use Rattle.held.proofs.RoomLaws.{SameLong, long-enough, same-both, same-none}
+use Rattle.held.proofs.RoomLaws.{SameLong, same-both, same-none}
 use Rattle.held.specs.Holds.{Tables, needs as needsOf}
 use Rattle.model.specs.Refusal.{short}
 use Rattle.window.specs.Refilled.{Within, bytesOf}
 use Rattle.window.specs.Wanted.{wanted}
-use Rattle.window.specs.declared.input.Window.{Window}
 use Rattle.intake.proofs.GoingLaws.{Going, behind, go-done, go-fill, go-more, go-refused, go-start, tables-long, within-long}
 use Rattle.intake.proofs.input.read_fields.Statement.{statement}
 use Rattle.intake.proofs.input.read_fields.Tie as tie

@@ -1,6 +1,5 @@
 -- `input::read_map`: by the lengths lent. Assumes nothing.
 use borrow.Author.Needs.{needs}
-use Prim.Native.Nat.{ℕ}
 use mathlib.Core.Path.{_≡_, sym, _∙_}
 use mathlib.Core.Bool.{false}
 use Rattle.answers.proofs.PassedLaws.{lacks-short, none-short}

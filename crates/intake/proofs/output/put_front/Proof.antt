@@ -1,5 +1,4 @@
 -- `output::put_front`: what is written lies within the bytes. Assumes nothing.
-use borrow.Author.Needs.{needs}
 use native.Mathlib.Omega.{arith}
 use mathlib.Core.Path.{refl}
 use lib.ListN.{length-take}
