@@ -1,7 +1,7 @@
 -- What is known once a call has passed its checks, and what its tests of lengths say. Assumes nothing.
 use Prim.Native.Nat.{ℕ, _≤_}
 use mathlib.Core.Path.{_≡_, refl, sym, ap, _∙_}
-use mathlib.Core.Bool.{Bool, true, false, _||_, true≢false}
+use mathlib.Core.Bool.{Bool, true, false, _||_}
 use mathlib.Core.List.{List, [], _∷_}
 use lib.Dec.{ltb}
 use borrow.Author.Tests.{ltb-false}
@@ -29,13 +29,9 @@ pub refused-as : (n : ℕ) (s s′ : Bool) (m : Map) (off off′ bad : Bool) →
 refused-as n s s′ m off off′ bad e f g = e ∙ rw (f, g) refl
 
 -- ---- a lent length with its need, before the rest
-pub or-parts : (a b : Bool) → a || b ≡ false → (a ≡ false) × (b ≡ false)
-or-parts true b e = absurd (true≢false e)
-or-parts false b e = (refl, e)
-
 pub long-enough : (n need : ℕ) (l : List (ℕ × ℕ)) → short ((n, need) ∷ l) ≡ false → (need ≤ n) × (short l ≡ false)
 unfolding short
-long-enough n need l e = let p = or-parts (ltb n need) (short l) e in (ltb-false n need (p .0), p .1)
+long-enough n need l e = let p = model.or-parts (ltb n need) (short l) e in (ltb-false n need (p .0), p .1)
 
 -- as the calls of `lacks` add them up, from the last
 pub none-short : false ≡ short []

@@ -9,9 +9,9 @@ use lib.IntN.{ℤ}
 use lib.ListN.{length}
 use lib.Ieee.{Float}
 use borrow.Author.Tests.{lt-ltb, le-ltb, ltb-false}
+use Rattle.model.proofs.RunLaws.{or-parts}
 use Rattle.model.specs.Refusal.{firstOf, verdict, short, badSize, unsorted, outside}
 use Rattle.limits.specs.Batches.{disorder, entries, ragged, refuseBatch}
-use Rattle.limits.proofs.EntryLaws.{or-parts}
 use Rattle.grid.specs.Change.{refuseChange, shortOf}
 
 -- ---- 9: the first table that is short

@@ -1,5 +1,6 @@
 -- What comes is open. Of the same bytes, however they are cut into windows, any two outcomes that the contracts of `read_map` and `list_input` permit are equal. Assumes nothing.
 use Prim.Native.Nat.{ℕ, suc, _+_, _^_, _≤_, _<_}
+use native.Mathlib.Nat.{suc-ne-zero}
 use native.Mathlib.Omega.{arith}
 use mathlib.Core.Path.{_≡_, refl, sym, ap, _∙_, subst}
 use mathlib.Core.Logic.{inr}
@@ -63,9 +64,6 @@ last (Reading.More r used) = 0
 last (Reading.Refused n f) = 1
 last (Reading.Done m) = 1
 
-apart : _≡_ {A = ℕ} 0 1 → ⊥
-apart e = omega arith
-
 -- ---- the model's reader, whose fields have numbers to the end of the bytes
 record Held (r : Reader) (t : Tables) (b : List ℕ) : Type 0 where
   reader : model.Reader
@@ -85,7 +83,7 @@ module _ {r : Reader} {t : Tables} {b : List ℕ} (h : Held r t b) where
   on-held r′ used t′ x = go (short (needs t)) refl
     where
       go : (z : Bool) → short (needs t) ≡ z → Held r′ t′ (drop used b)
-      go true s = absurd (apart (ap last (x .lacking s .0)))
+      go true s = absurd (suc-ne-zero 0 (sym (ap last (x .lacking s .0))))
       go false s =
           let p = x .reads s (h .reader) (h .holds) small .0 in
           let g : Goes (h .reader .field) (model.more (p .0) (drop used b)) = subst (Goes (h .reader .field)) (p .1) (field-goes (h .reader) b (h .fit)) in
@@ -106,12 +104,12 @@ runs-one : {r : Reader} {t : Tables} {b : List ℕ} {a c : Reading} {t₁ t₂ :
 runs-one {b = b} {c = c} {t₂ = t₂} h (next {r′ = r′} {used = u} {t′ = t′} x f) (next {r′ = r₂} {used = u₂} {t′ = t₃} y g) =
     let e = same-field h (Reading.More r′ u) (Reading.More r₂ u₂) x y in
     runs-one (on-held h r′ u t′ x) f (same-next b r′ r₂ u u₂ t′ t₃ c t₂ (e .0) (e .1) g)
-runs-one h (next x f) (last-refused y) = absurd (apart (ap last (same-field h _ _ x y .0)))
-runs-one h (next x f) (last-done y) = absurd (apart (ap last (same-field h _ _ x y .0)))
-runs-one h (last-refused x) (next y g) = absurd (apart (ap last (same-field h _ _ y x .0)))
+runs-one h (next x f) (last-refused y) = absurd (suc-ne-zero 0 (sym (ap last (same-field h _ _ x y .0))))
+runs-one h (next x f) (last-done y) = absurd (suc-ne-zero 0 (sym (ap last (same-field h _ _ x y .0))))
+runs-one h (last-refused x) (next y g) = absurd (suc-ne-zero 0 (sym (ap last (same-field h _ _ y x .0))))
 runs-one h (last-refused x) (last-refused y) = same-field h _ _ x y
 runs-one h (last-refused x) (last-done y) = same-field h _ _ x y
-runs-one h (last-done x) (next y g) = absurd (apart (ap last (same-field h _ _ y x .0)))
+runs-one h (last-done x) (next y g) = absurd (suc-ne-zero 0 (sym (ap last (same-field h _ _ y x .0))))
 runs-one h (last-done x) (last-refused y) = same-field h _ _ x y
 runs-one h (last-done x) (last-done y) = same-field h _ _ x y
 

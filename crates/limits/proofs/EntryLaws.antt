@@ -3,7 +3,7 @@ use Prim.Native.Nat.{ℕ, _+_, _-_, _*_, _/_, _%_, _≤_, _<_}
 use native.Mathlib.Nat.{add-zero, le-of-suc-le-suc, not-suc-le-zero}
 use native.Mathlib.Omega.{arith}
 use mathlib.Core.Path.{_≡_, refl, ap, _∙_}
-use mathlib.Core.Bool.{Bool, true, false, not, cond, _&&_, _||_, true≢false}
+use mathlib.Core.Bool.{Bool, true, false, not, cond, _&&_, _||_}
 use mathlib.Core.List.{List, [], _∷_}
 use lib.IntN.{ℤ, pos}
 use lib.Signed.{leZ, ltZ}
@@ -98,8 +98,3 @@ refuse-ragged b h g = rw (entries-length b, le-ltb 256 (length b / 3) h, ragged-
 pub refuse-short : (b : List ℤ) (d o : Bool) → length b / 3 ≤ 256 → length b % 3 ≡ 0 → d ≡ unsorted (entries b) → o ≡ outside (entries b) → refuseBatch b ≡ cond d 4 (cond o 5 0)
 unfolding refuseBatch firstOf
 refuse-short b d o h g p q = rw (entries-length b, le-ltb 256 (length b / 3) h, whole-is b g, p, q)
-
--- where neither of two checks is due
-pub or-parts : (x y : Bool) → x || y ≡ false → (x ≡ false) × (y ≡ false)
-or-parts true y h = absurd (true≢false h)
-or-parts false y h = (refl, h)

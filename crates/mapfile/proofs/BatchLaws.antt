@@ -10,12 +10,12 @@ use lib.IntN.{ℤ, pos}
 use lib.ListN.{drop, getD, length, replicate, take, length-append, length-drop}
 use lib.Seq.{length-take-le, take-at}
 use borrow.Author.Tests.{ltb-false, ne-eqb}
-use Rattle.answers.proofs.PassedLaws.{or-parts}
 use Rattle.fields.specs.Fields.{Numbers, numbersOf}
 use Rattle.fields.specs.declared.head.Expected.{Expected}
 use Rattle.ieee.proofs.Tools.{lt-or-ge}
 use Rattle.limits.specs.Batches.{entries, isFull, ragged}
 use Rattle.limits.proofs.EntryLaws.{whole-is}
+use Rattle.model.proofs.RunLaws.{or-parts}
 use Rattle.model.specs.Map as map
 use Rattle.model.specs.MapFile as model
 use Rattle.model.specs.MapFile.{badFlag, entryBytes, takeBatch}

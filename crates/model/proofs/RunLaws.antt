@@ -29,22 +29,22 @@ use Rattle.model.proofs.KeyLaws.{Fair, key-inside, key-lt}
 use Rattle.model.proofs.TestLaws.{not-false, lawful, tests-shift}
 
 -- ---- a batch that passes its checks: its keys ascend, and lie inside the batch coordinates
-or-false : (a b : Bool) → a || b ≡ false → (a ≡ false) × (b ≡ false)
-or-false true b e = absurd (true≢false e)
-or-false false b e = (refl, e)
+pub or-parts : (a b : Bool) → a || b ≡ false → (a ≡ false) × (b ≡ false)
+or-parts true b e = absurd (true≢false e)
+or-parts false b e = (refl, e)
 
 fair : (e : Entry) (l : List Entry) → outside (e ∷ l) ≡ false → Fair e × (outside l ≡ false)
 unfolding outside
 fair e l q =
-    let r = or-false (offMap maxCoordinate (e .x) || offMap maxCoordinate (e .y)) (outside l) q in
-    let s = or-false (offMap maxCoordinate (e .x)) (offMap maxCoordinate (e .y)) (r .0) in
+    let r = or-parts (offMap maxCoordinate (e .x) || offMap maxCoordinate (e .y)) (outside l) q in
+    let s = or-parts (offMap maxCoordinate (e .x)) (offMap maxCoordinate (e .y)) (r .0) in
     (record { nearX = no-ltb maxCoordinate (natAbs (e .x)) (s .0); nearY = no-ltb maxCoordinate (natAbs (e .y)) (s .1) }, r .1)
 
 batch-asc : (a : Entry) (l : List Entry) → unsorted (a ∷ l) ≡ false → outside (a ∷ l) ≡ false → Asc (key (a .x) (a .y)) (toBatch (a ∷ l))
 unfolding toBatch unsorted
 batch-asc a [] s o = (le-refl (key (a .x) (a .y)), tt)
 batch-asc a (b ∷ l) s o =
-    let r = or-false (not (before a b)) (unsorted (b ∷ l)) s in
+    let r = or-parts (not (before a b)) (unsorted (b ∷ l)) s in
     let f = fair a (b ∷ l) o in
     let g = fair b l (f .1) in (
       le-refl (key (a .x) (a .y)),
@@ -145,7 +145,7 @@ next-sound (radius r) m e g =
     let p = passed _ e in
     let t = tests (m .size) r in
     subst (λ (z : ℕ). Good z (m .cells) (update t (m .cells) [] (cornerCells (m .cells)) (emptyLayer r))) (tests-shift (m .size) r)
-    (rebuild-good t (lawful (m .size) r (or-false (badRadius (m .size) (m .layer .radius)) (badRadius (m .size) r) (p .radius) .1)) (m .cells) (g .cellOrder) (g .inside) r)
+    (rebuild-good t (lawful (m .size) r (or-parts (badRadius (m .size) (m .layer .radius)) (badRadius (m .size) r) (p .radius) .1)) (m .cells) (g .cellOrder) (g .inside) r)
 
 -- whatever an accepted operation keeps, every operation keeps, and every run
 pub run-keeps : (P : Map → Type 0) → ((o : Op) (m : Map) → refusal o m ≡ 0 → P m → P (next o m)) → (os : List Op) (m : Map) → P m → P (run os m)
@@ -248,11 +248,11 @@ unfolding refusal judge
 next-roomy (batch l) m e =
     let p = passed _ e in
     let n = next (batch l) m in
-    roomy n (or-false (crowded m) (crowded n) (p .cells) .1) (or-false (packed m) (packed n) (p .points) .1)
+    roomy n (or-parts (crowded m) (crowded n) (p .cells) .1) (or-parts (packed m) (packed n) (p .points) .1)
 next-roomy (radius r) m e =
     let p = passed _ e in
     let n = next (radius r) m in
-    roomy n (same-cells ∙ p .cells) (or-false (packed m) (packed n) (p .points) .1)
+    roomy n (same-cells ∙ p .cells) (or-parts (packed m) (packed n) (p .points) .1)
   where
     same-cells : crowded (next (radius r) m) ≡ crowded m
     same-cells = unfold next rebuilt in refl

@@ -9,10 +9,10 @@ use lib.IntN.{ℤ, pos, negsuc, natAbs}
 use lib.ListN.{drop, getD, length, set}
 use borrow.Author.Tests.{ltb-false}
 use Rattle.answers.specs.Asking.{Front}
-use Rattle.answers.proofs.PassedLaws.{or-parts}
 use Rattle.ieee.specs.Whole.{biased}
 use Rattle.model.proofs.KeyLaws.{Asked}
 use Rattle.model.proofs.SiftLaws.{sift-end, sift-kept, sift-left}
+use Rattle.model.proofs.RunLaws.{or-parts}
 use Rattle.model.specs.Answers.{free}
 use Rattle.model.specs.Cell.{W, eight, key, origin}
 use Rattle.model.specs.Good.{Inside}

@@ -13,8 +13,7 @@ use borrow.Author.Tests.{lt-ltb, le-ltb, ltb-false}
 use Rattle.floor.proofs.FloorLaws.{holds-cells}
 use Rattle.floor.specs.Floor as floor
 use Rattle.limits.specs.Batches.{entries, ragged}
-use Rattle.limits.proofs.EntryLaws.{or-parts}
-use Rattle.model.proofs.RunLaws.{passed}
+use Rattle.model.proofs.RunLaws.{passed, or-parts}
 use Rattle.model.specs.Batch.{cellsAfter}
 use Rattle.model.specs.Limits.{maxBatch, maxCells, maxPoints}
 use Rattle.model.specs.Map as model

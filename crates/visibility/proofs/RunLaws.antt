@@ -7,9 +7,8 @@ use lib.Dec.{ltb}
 use lib.Ieee.{Float, eq, le, lt}
 use Rattle.model.specs.Map as model
 use Rattle.limits.specs.Batches.{entries, ragged}
-use Rattle.limits.proofs.EntryLaws.{or-parts}
 use Rattle.model.specs.Refusal.{badSize, judge, nothing, opened, refuseOpen, run, short, step, unless}
-use Rattle.model.proofs.RunLaws.{passed}
+use Rattle.model.proofs.RunLaws.{passed, or-parts}
 use Rattle.model.specs.Limits.{maxCells}
 use Rattle.visibility.specs.Change.{Lent, lentNeeds, refuseInput}
 use Rattle.held.specs.Holds.{Holds, Tables, needs, noMap}
