@@ -1,8 +1,8 @@
 // The refusals of a call that leaves the map as it is.
-use floor::cell::Cell;
 use held::map::Map;
+use limits::cell::Cell;
 use limits::judge::bad_size;
-use radii::radius::bad_radius;
+use limits::radius::bad_radius;
 ghost use mathlib.Core.Path.{_≡_};
 ghost use mathlib.Core.Bool.{_||_};
 ghost use lib.Dec.{ltb};

@@ -6,15 +6,15 @@ use mathlib.Core.List.{List, []}
 use lib.Ieee.{Float}
 use Rattle.answers.proofs.ListingLaws.{Settled}
 use Rattle.held.specs.declared.map.Map.{Map}
-use Rattle.map_questions.proofs.AskLaws.{unknown-refused}
-use Rattle.map_questions.proofs.Determinate.{numbered-one}
-use Rattle.map_questions.specs.Asks.{AsksNumbered}
-use Rattle.occupied.specs.Lists.{Lent, due}
+use Rattle.answers.proofs.AskLaws.{unknown-refused}
+use Rattle.answers.proofs.DeterminateAsk.{numbered-one}
+use Rattle.answers.specs.Asks.{AsksNumbered}
+use Rattle.answers.specs.CellLists.{Lent, due}
 use Rattle.plane.specs.declared.point.Point.{Point}
-use Rattle.questions.proofs.NumberLaws.{above-unknown}
-use Rattle.questions.specs.Answer.{nowhere}
-use Rattle.questions.specs.Numbered.{badNumbered, questionOf}
-use Rattle.questions.specs.declared.numbered.Numbered.{Numbered}
+use Rattle.question.proofs.NumberLaws.{above-unknown}
+use Rattle.question.specs.Answer.{nowhere}
+use Rattle.question.specs.Numbered.{badNumbered, questionOf}
+use Rattle.question.specs.declared.numbered.Numbered.{Numbered}
 use Rattle.ask_c.specs.Told.{Asked, foundOf}
 use Rattle.ask_c.specs.declared.Found.{Found}
 

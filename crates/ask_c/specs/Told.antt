@@ -6,11 +6,11 @@ use mathlib.Core.Path.{_≡_}
 use lib.Ieee.{Float}
 use lib.IntN.{pos}
 use Rattle.held.specs.declared.map.Map.{Map}
-use Rattle.map_questions.specs.Asks.{AsksNumbered}
+use Rattle.answers.specs.Asks.{AsksNumbered}
 use Rattle.plane.specs.declared.point.Point.{Point}
-use Rattle.questions.specs.Numbered.{questionOf}
-use Rattle.questions.specs.declared.ask.Answer.{Answer}
-use Rattle.questions.specs.declared.ask.Place.{Place}
+use Rattle.question.specs.Numbered.{questionOf}
+use Rattle.question.specs.declared.ask.Answer.{Answer}
+use Rattle.question.specs.declared.ask.Place.{Place}
 use Rattle.ask_c.specs.declared.Found.{Found}
 
 -- the refusal's number, and the cell or none

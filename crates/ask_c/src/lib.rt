@@ -1,11 +1,11 @@
 // The question of four shapes under a C name.
-use floor::cell::Cell;
+use answers::ask::ask_numbered;
 use held::map::Map;
-use map_questions::ask::ask_numbered;
+use limits::cell::Cell;
 use plane::point::Point;
-use questions::ask::Answer;
-use questions::ask::Place;
-use questions::numbered::question_of;
+use question::ask::Answer;
+use question::ask::Place;
+use question::numbered::question_of;
 ghost use mathlib.Core.Path.{_≡_};
 ghost use Rattle.ask_c.specs.Told.{Asked, foundOf};
 

@@ -14,10 +14,10 @@ use Rattle.model.proofs.BatchLaws.{cells-order}
 use Rattle.table.specs.Listed.{values}
 use Rattle.table.specs.Tables.{Table, pad}
 use Rattle.table.proofs.TableLaws.{pad-length, pad-table, pad-take}
-use Rattle.floor.specs.Floor.{Holds}
+use Rattle.limits.specs.Floor.{Holds}
 use Rattle.limits.specs.Batches.{flags}
 use Rattle.batches.proofs.BatchLaws.{Settled, settled}
-use Rattle.floor.proofs.FloorLaws.{behind}
+use Rattle.limits.proofs.FloorLaws.{behind}
 
 -- the first places of a floor's table
 pub holds-table : (t : List ℕ) (n : ℕ) (C : List ℕ) → Holds t n C → take maxCells t ≡ pad maxCells C

@@ -7,7 +7,7 @@ use mathlib.Core.Bool.{false, cond}
 use mathlib.Core.List.{List, [], _∷_, _++_}
 use lib.ListN.{length, drop, getD, set, length-drop}
 use lib.Seq.{getD-drop, drop-drop}
-use Rattle.lists.proofs.Front.{mix, mix-more, mix-done}
+use Rattle.table.proofs.Front.{mix, mix-more, mix-done}
 use Rattle.model.specs.Batch.{Batch}
 use Rattle.model.specs.Maps.{keys}
 use Rattle.table.specs.Listed.{Listed, values}

@@ -1,9 +1,9 @@
 // A batch on the occupied cells: how many there are afterwards, what is confirmed, and the change itself. Nothing is
 // asked of a table or a batch; what is promised is promised of an ascending table and of a batch that is not
 // refused.
-use floor::cell::Cell;
-use insert::change::insert;
-use insert::change::remove;
+use limits::cell::Cell;
+use table::change::insert;
+use table::change::remove;
 use table::place::contains;
 ghost use mathlib.Core.Path.{_≡_};
 ghost use mathlib.Core.Bool.{true, false, cond};

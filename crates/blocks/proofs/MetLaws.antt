@@ -10,7 +10,7 @@ use mathlib.Core.List.{List}
 use lib.Dec.{T, eqb, ltb, eqb→eq}
 use lib.ListN.{length, drop, getD, set, take}
 use borrow.Author.Tests.{eq-eqb, ne-eqb, eqb-true, lt-ltb}
-use Rattle.lists.proofs.Parts.{tail-is}
+use Rattle.table.proofs.Parts.{tail-is}
 use Rattle.model.specs.Blocks.{Linked, here, on, adjacent}
 use Rattle.model.specs.Cell.{W, apart, col, row}
 use Rattle.model.specs.Maps.{AscL}

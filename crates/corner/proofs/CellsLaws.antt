@@ -18,7 +18,7 @@ use Rattle.corner.specs.Changes.{Inner, numbered}
 use Rattle.corner.specs.Window.{gathered}
 use Rattle.corner.proofs.AddedLaws.{Gathering, added-listed, gathering-none, gathering-pass, gathering-put}
 use Rattle.corner.proofs.ChangeLaws.{numbered-gathered}
-use Rattle.corner_bits.proofs.StatusLaws.{any-is}
+use Rattle.corner.proofs.StatusLaws.{any-is}
 
 -- the i-th cell with its status, if it has a corner
 abbrev pub cornerAt : List ℕ → ℕ → List (ℕ × Bits)

@@ -5,5 +5,6 @@ pub mod ChangeLaws
 pub mod CornersLaws
 pub mod MetLaws
 pub mod RowLaws
+pub mod StatusLaws
 pub mod WindowLaws
 pub mod WordLaws

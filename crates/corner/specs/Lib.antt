@@ -2,4 +2,5 @@
 pub mod Changes
 pub mod Corners
 pub mod Turns
+pub mod Weights
 pub mod Window

@@ -1,3 +1,6 @@
 // Corners of occupied cells: a cell's status, the cells that have a corner, and the statuses that a batch altered.
+pub mod bits;
 pub mod cells;
+pub mod changes;
 pub mod status;
+pub mod window;

@@ -1,11 +1,11 @@
 // The points and pairs of a map under C names. Each function is the call of that name, with its contract.
 use answers::judge::Count;
-use edges::pairs::all_pairs;
-use edges::pairs::open_pairs;
-use edges::points::all_points;
-use edges::points::free_points;
+use answers::pairs::all_pairs;
+use answers::pairs::open_pairs;
+use answers::points::all_points;
+use answers::points::free_points;
 use held::map::Map;
-ghost use Rattle.edges.specs.Lists.{AllPairs, AllPoints, FreePoints, OpenPairs};
+ghost use Rattle.answers.specs.PairLists.{AllPairs, AllPoints, FreePoints, OpenPairs};
 
 // All points, their statuses, and their blockers.
 #[no_mangle]

@@ -1,7 +1,7 @@
 // The listing of a map file under a C name.
 use answers::judge::Count;
-use file_report::file::list_file;
-ghost use Rattle.file_report.specs.Filed.{Listed};
+use report::file::list_file;
+ghost use Rattle.report.specs.Filed.{Listed};
 
 // What the program `listing` prints for these bytes, and how many bytes it has.
 #[no_mangle]

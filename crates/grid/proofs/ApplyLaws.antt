@@ -13,8 +13,8 @@ use Rattle.table.proofs.ListedLaws.{listed-numbers}
 use Rattle.corner.specs.Changes.{numbered}
 use Rattle.corner.proofs.ChangeLaws.{numbered-count}
 use Rattle.limits.specs.Batches.{flags}
-use Rattle.floor.specs.declared.floor.Floor.{Floor}
-use Rattle.floor.proofs.FloorLaws.{holds-cells}
+use Rattle.limits.specs.declared.floor.Floor.{Floor}
+use Rattle.limits.proofs.FloorLaws.{holds-cells}
 use Rattle.batches.proofs.AlterLaws.{Alters, Confirms, changes-turned, corners-listed, flags-count}
 use Rattle.batches.proofs.BatchLaws.{Settled, settled}
 use Rattle.batches.proofs.CommitLaws.{Commits, committed, committed-cells, committed-holds}

@@ -15,10 +15,10 @@ use Rattle.model.specs.Maps.{AscL}
 use Rattle.model.specs.Refusal.{unsorted, outside}
 use Rattle.limits.specs.Batches.{entries}
 use Rattle.grid.specs.Change.{Applying, Changing, Done, Lent, refuseChange, refusedWith, shortFor}
-use Rattle.floor.specs.Floor.{Holds}
+use Rattle.limits.specs.Floor.{Holds}
 use Rattle.grid.specs.declared.change.Changed.{Changed}
-use Rattle.floor.specs.declared.floor.Floor.{Floor}
-use Rattle.floor.proofs.FloorLaws.{holds-cells}
+use Rattle.limits.specs.declared.floor.Floor.{Floor}
+use Rattle.limits.proofs.FloorLaws.{holds-cells}
 use Rattle.grid.proofs.RefuseLaws.{Passed, change-early, change-passed, long-enough}
 
 module _ (floor : Floor) (b : List ℤ) (t t′ : Lent) (r : Changed) where

@@ -11,9 +11,9 @@ use Rattle.model.specs.Limits.{maxCells}
 use Rattle.model.specs.Map.{toBatch}
 use Rattle.limits.specs.Batches.{entries}
 use Rattle.grid.specs.Change.{Changing, Decided, Done, Lent, refuseChange, refusedWith, shortFor}
-use Rattle.floor.specs.Floor.{Holds}
+use Rattle.limits.specs.Floor.{Holds}
 use Rattle.grid.specs.declared.change.Changed.{Changed}
-use Rattle.floor.specs.declared.floor.Floor.{Floor}
+use Rattle.limits.specs.declared.floor.Floor.{Floor}
 
 same-tables : (t u : Lent) → t .cells ≡ u .cells → t .confirmed ≡ u .confirmed → t .full ≡ u .full → t .corners ≡ u .corners → t .statuses ≡ u .statuses → t ≡ u
 same-tables t u a b c d e = rw (a, b, c, d, e) refl

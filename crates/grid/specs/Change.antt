@@ -16,10 +16,10 @@ use Rattle.model.specs.Refusal.{verdict, short, badSize, unsorted, outside}
 use Rattle.corner.specs.Changes.{numbered}
 use Rattle.table.specs.Listed.{Listed}
 use Rattle.table.specs.Tables.{pad}
-use Rattle.floor.specs.Floor.{Holds}
+use Rattle.limits.specs.Floor.{Holds}
 use Rattle.limits.specs.Batches.{disorder, entries, flags}
 use Rattle.grid.specs.declared.change.Changed.{Changed}
-use Rattle.floor.specs.declared.floor.Floor.{Floor}
+use Rattle.limits.specs.declared.floor.Floor.{Floor}
 
 -- ---- the lent tables: the cells; the confirmed changes with 1 or 0; the corner changes with their statuses
 pub record Lent : Type 0 where

@@ -2,8 +2,8 @@
 use batches::batch::commit;
 use batches::batch::confirm;
 use batches::batch::count_after;
-use corners::changes::corner_changes;
-use floor::floor::Floor;
+use corner::changes::corner_changes;
+use limits::floor::Floor;
 use limits::judge::bad_size;
 use limits::judge::refuse_batch;
 ghost use mathlib.Core.List.{List};

@@ -8,7 +8,7 @@ use lib.Dec.{ltb}
 use lib.IntN.{ℤ}
 use lib.ListN.{length}
 use borrow.Author.Tests.{ltb-false, ltb-true}
-use Rattle.floor.specs.declared.floor.Floor.{Floor}
+use Rattle.limits.specs.declared.floor.Floor.{Floor}
 use Rattle.grid.proofs.Determinate.{change-one}
 use Rattle.grid.specs.Change.{Lent}
 use Rattle.grid.specs.Change as grid

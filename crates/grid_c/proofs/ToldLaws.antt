@@ -14,14 +14,14 @@ use Rattle.model.specs.Maps.{AscL}
 use Rattle.model.specs.Refusal.{badQuestion}
 use Rattle.model.specs.Shape.{Question, ask}
 use Rattle.table.specs.Tables.{All}
-use Rattle.floor.specs.Floor.{Holds}
-use Rattle.questions.specs.Ask.{refuseAsk, refuseFloor}
-use Rattle.questions.specs.Numbered.{badNumbered}
-use Rattle.questions.specs.declared.numbered.Numbered.{Numbered}
+use Rattle.limits.specs.Floor.{Holds}
+use Rattle.question.specs.Ask.{refuseAsk, refuseFloor}
+use Rattle.question.specs.Numbered.{badNumbered}
+use Rattle.question.specs.declared.numbered.Numbered.{Numbered}
 use Rattle.question.specs.Question.{asked}
 use Rattle.question.specs.Walk.{foundAs, keyed}
 use Rattle.question.specs.declared.search.Found.{Found}
-use Rattle.questions.proofs.AskLaws.{ask-short, search-told}
+use Rattle.question.proofs.AskLaws.{ask-short, search-told}
 use Rattle.grid_c.specs.Told.{Telling, Tells, keyOr}
 
 key-of : (o : Option ℕ) → keyed o .key ≡ keyOr o

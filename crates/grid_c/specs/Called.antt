@@ -8,7 +8,7 @@ use lib.ListN.{length, drop}
 use Rattle.grid.specs.Change.{Changing, Lent}
 use Rattle.grid.specs.Change as grid
 use Rattle.grid.specs.declared.change.Changed.{Changed}
-use Rattle.floor.specs.declared.floor.Floor.{Floor}
+use Rattle.limits.specs.declared.floor.Floor.{Floor}
 
 -- the counts of an accepted call
 abbrev pub countsOf : ℕ → Changed → List ℕ → List ℕ

@@ -6,12 +6,12 @@ use mathlib.Core.Option.{Option, none, some}
 use mathlib.Core.Path.{_≡_}
 use lib.Ieee.{Float}
 use lib.ListN.{length}
-use Rattle.floor.specs.Floor.{Holds}
+use Rattle.limits.specs.Floor.{Holds}
 use Rattle.model.specs.Shape.{Question, ask}
 use Rattle.question.specs.Question.{asked}
-use Rattle.questions.specs.Ask.{refuseAsk, refuseFloor}
-use Rattle.questions.specs.Numbered.{questionOf}
-use Rattle.questions.specs.declared.numbered.Numbered.{Numbered}
+use Rattle.question.specs.Ask.{refuseAsk, refuseFloor}
+use Rattle.question.specs.Numbered.{questionOf}
+use Rattle.question.specs.declared.numbered.Numbered.{Numbered}
 
 -- by its shape's number and its numbers
 abbrev pub question : ℕ → Float → Float → Float → Float → Float → Numbered

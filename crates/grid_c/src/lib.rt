@@ -1,13 +1,13 @@
 // A floor's batches and questions under C names, for the benchmark of cells alone. No part of the border: the map's calls answer
 // the same questions.
-use floor::floor::Floor;
 use grid::change::change_cells;
+use limits::floor::Floor;
 use plane::point::Point;
+use question::ask::judge;
+use question::judge::bad_question;
+use question::numbered::Numbered;
+use question::numbered::question_of;
 use question::search::search;
-use questions::ask::judge;
-use questions::judge::bad_question;
-use questions::numbered::Numbered;
-use questions::numbered::question_of;
 ghost use Rattle.grid_c.specs.Called.{Called};
 ghost use Rattle.grid_c.specs.Told.{Tells, question};
 

@@ -9,19 +9,19 @@
 // p  x y, s  x y width, c  x y radius, w  x0 y0 x1 y1 width: refusal, 1 or 0, the cell found
 //
 // Sizes, coordinates of points, widths and radii are bit patterns of f64, the other operands are two's complements.
-use copy::copy::clear;
-use floor::cell::is_occupied;
-use floor::floor::Floor;
 use grid::change::change_cells;
-use patterns::float_at;
-use patterns::integer_at;
-use question_vectors::answer_place;
-use question_vectors::cell_at;
-use question_vectors::question_at;
-use questions::ask::ask;
-use vectors::answer;
-use vectors::change::enter;
-use vectors::change::write_changes;
+use limits::cell::is_occupied;
+use limits::floor::Floor;
+use question::ask::ask;
+use replay::change::enter;
+use replay::change::write_changes;
+use replay::lines::answer;
+use replay::patterns::float_at;
+use replay::patterns::integer_at;
+use replay::questions::answer_place;
+use replay::questions::cell_at;
+use replay::questions::question_at;
+use table::copy::clear;
 
 // The floor, the numbers of the batch so far, and whether there was a line.
 struct State {
@@ -132,7 +132,7 @@ fn obey(letter: u8, line: &[u8], state: State, cells: &mut [u64], batch: &mut [i
 // One line, where there is one.
 fn replay(state: State, cells: &mut [u64; 1024], batch: &mut [i64; 900]) -> State {
     let mut line = [0u8; 104];
-    if !vectors::read_line(&mut line) {
+    if !replay::lines::read_line(&mut line) {
         let mut last = state;
         last.more = false;
         return last;

@@ -6,7 +6,7 @@ use mathlib.Core.List.{List, _++_, append-assoc}
 use lib.ListN.{drop, length, length-append, replicate, take}
 use lib.Seq.{drop-at, take-append-seam}
 use Rattle.table.proofs.TableLaws.{pad-length}
-use Rattle.copy.specs.Copied.{Copied}
+use Rattle.table.specs.Copied.{Copied}
 use Rattle.table.specs.Tables.{pad}
 
 -- a list k, which is m, copied to the front of a table

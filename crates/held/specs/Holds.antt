@@ -3,7 +3,7 @@ use Prim.Native.Nat.{ℕ}
 use mathlib.Core.Path.{_≡_}
 use mathlib.Core.List.{List, [], _∷_}
 use lib.ListN.{drop, length}
-use Rattle.floor.specs.Floor as floor
+use Rattle.limits.specs.Floor as floor
 use Rattle.ieee.specs.Constants.{nought}
 use Rattle.model.specs.Good.{Good}
 use Rattle.model.specs.Limits.{maxCells, maxPoints}

@@ -8,11 +8,11 @@ use mathlib.Core.Bool.{Bool, true, false}
 use mathlib.Core.List.{List, _++_, append-assoc}
 use lib.ListN.{drop, length, length-append, length-drop}
 use lib.Seq.{drop-append-le}
-use Rattle.fields.proofs.WindowLaws.{wide-field}
-use Rattle.fields.specs.Windows.{Wide, extend}
-use Rattle.file_report.proofs.Determinate.{list-file-one}
-use Rattle.file_report.proofs.ReadingLaws.{Fit, Goes, field-goes}
-use Rattle.file_report.specs.Filed.{Listed}
+use Rattle.mapfile.proofs.WindowLaws.{wide-field}
+use Rattle.mapfile.specs.Windows.{Wide, extend}
+use Rattle.report.proofs.DeterminateFile.{list-file-one}
+use Rattle.report.proofs.ReadingLaws.{Fit, Goes, field-goes}
+use Rattle.report.specs.Filed.{Listed}
 use Rattle.held.specs.Holds.{Tables, needs}
 use Rattle.held.specs.declared.map.Map.{Map}
 use Rattle.mapfile.proofs.Determinate.{field-one}
@@ -21,9 +21,9 @@ use Rattle.mapfile.specs.Reads.{FieldRead, HoldsReader, Says}
 use Rattle.model.specs.MapFile as model
 use Rattle.model.specs.MapFile.{oneField}
 use Rattle.model.specs.Refusal.{short}
-use Rattle.reader.specs.Moves.{begun}
-use Rattle.reader.specs.declared.state.Reader.{Reader}
-use Rattle.reader.specs.declared.state.Reading.{Reading}
+use Rattle.mapfile.specs.Moves.{begun}
+use Rattle.mapfile.specs.declared.state.Reader.{Reader}
+use Rattle.mapfile.specs.declared.state.Reading.{Reading}
 use Rattle.intake.specs.Taken.{Came, Taken, lent}
 use Rattle.intake.specs.declared.input.End.{End}
 use Rattle.intake.specs.declared.listing.Shown.{Shown}

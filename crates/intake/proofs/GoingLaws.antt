@@ -7,18 +7,18 @@ use mathlib.Core.Bool.{Bool, true, false, true≢false}
 use mathlib.Core.List.{List, [], _++_, append-assoc, append-nil}
 use lib.ListN.{drop, length, length-append, length-drop, length-take, take}
 use lib.Seq.{drop-drop}
-use Rattle.fields.specs.Windows.{Wide}
+use Rattle.mapfile.specs.Windows.{Wide}
 use Rattle.held.proofs.RoomLaws.{long-enough}
 use Rattle.held.specs.Holds.{Tables, needs}
 use Rattle.held.specs.declared.map.Map.{Map}
-use Rattle.lists.proofs.Parts.{part-is}
+use Rattle.table.proofs.Parts.{part-is}
 use Rattle.mapfile.proofs.FeedLaws.{feeds-read}
 use Rattle.mapfile.specs.Feeds.{Feeds, fill, on, stop-done, stop-refused}
 use Rattle.mapfile.specs.Reads.{FieldRead}
 use Rattle.model.specs.Refusal.{short}
-use Rattle.reader.specs.Moves.{begun}
-use Rattle.reader.specs.declared.state.Reader.{Reader}
-use Rattle.reader.specs.declared.state.Reading.{Reading}
+use Rattle.mapfile.specs.Moves.{begun}
+use Rattle.mapfile.specs.declared.state.Reader.{Reader}
+use Rattle.mapfile.specs.declared.state.Reading.{Reading}
 use Rattle.report.proofs.CallLaws.{not-short}
 use Rattle.window.specs.Refilled.{Refilled, Within, bytesOf}
 use Rattle.window.specs.Wanted.{wanted}

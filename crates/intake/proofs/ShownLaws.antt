@@ -7,7 +7,7 @@ use lib.Dec.{leb}
 use lib.ListN.{length}
 use Rattle.answers.specs.Asking.{Listing, refuseMap, refusedWith}
 use Rattle.answers.specs.declared.judge.Count.{Count}
-use Rattle.file_report.proofs.EndLaws.{list-read, list-refused}
+use Rattle.report.proofs.EndLaws.{list-read, list-refused}
 use Rattle.held.proofs.RoomLaws.{Enough, long-enough}
 use Rattle.held.specs.Holds.{Holds, Tables, needs}
 use Rattle.held.specs.declared.map.Map.{Map}

@@ -5,7 +5,7 @@ use mathlib.Core.Bool.{true, false}
 use mathlib.Core.List.{List, [], _∷_}
 use lib.ListN.{length}
 use Rattle.answers.specs.Asking.{refusedWith}
-use Rattle.file_report.specs.Filed.{Listed}
+use Rattle.report.specs.Filed.{Listed}
 use Rattle.model.specs.Refusal.{short}
 use Rattle.report.specs.Reported.{needListing}
 use Rattle.window.specs.Wanted.{wanted}

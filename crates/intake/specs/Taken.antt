@@ -8,8 +8,8 @@ use Rattle.held.specs.Holds.{Tables, needs}
 use Rattle.mapfile.specs.Feeds.{EndsAs, Feeds}
 use Rattle.model.specs.MapFile.{readFile}
 use Rattle.model.specs.Refusal.{short}
-use Rattle.reader.specs.Moves.{begun}
-use Rattle.reader.specs.declared.state.Reading.{Reading}
+use Rattle.mapfile.specs.Moves.{begun}
+use Rattle.mapfile.specs.declared.state.Reading.{Reading}
 use Rattle.window.specs.Wanted.{wanted}
 use Rattle.intake.specs.declared.input.End.{End}
 

@@ -2,8 +2,8 @@
 use answers::judge::lacks;
 use held::map::Map;
 use mapfile::field::one_field;
-use reader::state::Reading;
-use reader::state::begin;
+use mapfile::state::Reading;
+use mapfile::state::begin;
 use window::input::Window;
 use window::input::refill;
 ghost use mathlib.Core.Path.{_≡_};

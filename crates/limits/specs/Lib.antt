@@ -1,2 +1,3 @@
 -- What the contracts of crate `limits`, and of those above it, cite.
 pub mod Batches
+pub mod Floor

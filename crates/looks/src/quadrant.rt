@@ -1,8 +1,8 @@
 // Which cells a point may see (document 01, 'Points').
-use corner_bits::Corner;
-use corner_bits::CornerStatus;
+use corner::bits::Corner;
+use corner::bits::CornerStatus;
 ghost use mathlib.Core.Path.{_≡_};
-ghost use Rattle.corner_bits.specs.Corners.{dir};
+ghost use Rattle.corner.specs.Weights.{dir};
 ghost use Rattle.model.specs.Corner.{Bits, number, quadrant, sees};
 
 // The corner of the signs of q - p, where neither is zero.

@@ -1,7 +1,7 @@
 // The float tests of a cell size and a radius, between centres, with what they find as a number: a key, or 0.
+use plane::cell::centre;
 use question::search::Question;
 use question::search::search;
-use spot::cell::centre;
 ghost use mathlib.Core.Path.{_≡_};
 ghost use Rattle.model.specs.Good.{Inside};
 ghost use Rattle.model.specs.Limits.{maxCoordinate};

@@ -9,11 +9,11 @@
 // Sizes and radii are bit patterns of f64, coordinates are two's complements.
 use held::map::Map;
 use held::map::Outcome;
-use patterns::float_at;
-use patterns::integer_at;
-use vectors::answer;
-use vectors::change::enter;
-use vectors::change::write_changes;
+use replay::change::enter;
+use replay::change::write_changes;
+use replay::lines::answer;
+use replay::patterns::float_at;
+use replay::patterns::integer_at;
 use visibility::change::Changed;
 use visibility::change::change_cells;
 use visibility::open::open;

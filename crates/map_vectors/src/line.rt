@@ -1,5 +1,5 @@
 // A line: a letter and as many operands of sixteen digits as the letter has.
-use vectors::read_part;
+use replay::lines::read_part;
 ghost use Prim.Native.Nat.{_≤_};
 
 // How many operands a line of the letter has.

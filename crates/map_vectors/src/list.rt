@@ -8,14 +8,14 @@ use crate::write::answer_count;
 use crate::write::write_cells;
 use crate::write::write_pair;
 use crate::write::write_points;
-use edges::pairs::all_pairs;
-use edges::pairs::open_pairs;
-use edges::points::all_points;
-use edges::points::free_points;
+use answers::cells::corner_cells;
+use answers::cells::occupied_cells;
+use answers::pairs::all_pairs;
+use answers::pairs::open_pairs;
+use answers::points::all_points;
+use answers::points::free_points;
 use held::map::Map;
-use occupied::cells::corner_cells;
-use occupied::cells::occupied_cells;
-use vectors::change::write_changes;
+use replay::change::write_changes;
 
 // Writes the first `count` pairs.
 fn write_pairs(lesser: &[u64; 2016], greater: &[u64; 2016], blocks: &[u64; 2016], count: usize) {

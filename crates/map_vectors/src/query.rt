@@ -7,13 +7,13 @@
 // Coordinates of points, widths and radii are bit patterns of f64, coordinates of cells are two's complements.
 use crate::write::answer_count;
 use crate::write::write_cells;
+use answers::ask::ask;
+use answers::cells::is_occupied;
 use held::map::Map;
-use map_questions::ask::ask;
-use occupied::cells::is_occupied;
-use question_vectors::answer_place;
-use question_vectors::cell_at;
-use question_vectors::question_at;
-use vectors::answer;
+use replay::lines::answer;
+use replay::questions::answer_place;
+use replay::questions::cell_at;
+use replay::questions::question_at;
 use views::neighbours::neighbours;
 use views::visibility_from::visibility_from;
 

@@ -5,7 +5,7 @@
 use crate::write::write_pair;
 use crate::write::write_points;
 use held::map::Map;
-use vectors::answer;
+use replay::lines::answer;
 ghost use Prim.Native.Nat.{_<_, _≤_};
 
 // A pair as the lesser point's row has it, and as the greater's has it, 0 for no pair.

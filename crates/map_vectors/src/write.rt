@@ -1,9 +1,9 @@
 // Cells, points and pairs on lines of their own, and how many there are.
 use answers::judge::Count;
 use libc::STDOUT_FILENO;
-use vectors::answer;
-use vectors::change::write_cell;
-use vectors::write_number;
+use replay::change::write_cell;
+use replay::lines::answer;
+use replay::lines::write_number;
 
 pub(crate) fn answer_count(line: &[u8], r: Count) {
     answer(line, &[r.refusal as u64, r.count as u64]);

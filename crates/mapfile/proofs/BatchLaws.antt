@@ -10,8 +10,8 @@ use lib.IntN.{ℤ, pos}
 use lib.ListN.{drop, getD, length, replicate, take, length-append, length-drop}
 use lib.Seq.{length-take-le, take-at}
 use borrow.Author.Tests.{ltb-false, ne-eqb}
-use Rattle.fields.specs.Fields.{Numbers, numbersOf}
-use Rattle.fields.specs.declared.head.Expected.{Expected}
+use Rattle.mapfile.specs.Fields.{Numbers, numbersOf}
+use Rattle.mapfile.specs.declared.head.Expected.{Expected}
 use Rattle.ieee.proofs.Tools.{lt-or-ge}
 use Rattle.limits.specs.Batches.{entries, isFull, ragged}
 use Rattle.limits.proofs.EntryLaws.{whole-is}
@@ -24,9 +24,9 @@ use Rattle.visibility.specs.Change.{Changing, Lent, lentNeeds}
 use Rattle.held.specs.Holds.{Holds, Tables, needs}
 use Rattle.visibility.specs.declared.change.Changed.{Changed}
 use Rattle.mapfile.specs.Reads.{HoldsReader, Took}
-use Rattle.reader.specs.Moves.{movedOn}
-use Rattle.reader.specs.declared.state.Reader.{Reader}
-use Rattle.reader.specs.declared.state.Reading.{Reading}
+use Rattle.mapfile.specs.Moves.{movedOn}
+use Rattle.mapfile.specs.declared.state.Reader.{Reader}
+use Rattle.mapfile.specs.declared.state.Reading.{Reading}
 use Rattle.mapfile.proofs.TakeLaws.{holds-at, not-zero, took-more, took-refused}
 
 -- ---- the numbers of good entries are those entries

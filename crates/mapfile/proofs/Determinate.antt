@@ -6,8 +6,8 @@ use mathlib.Core.Logic.{_⊎_, inl, inr}
 use mathlib.Core.Bool.{Bool, true, false}
 use mathlib.Core.List.{List}
 use lib.ListN.{drop, length, length-drop}
-use Rattle.fields.specs.Fields.{expectedOf}
-use Rattle.fields.specs.declared.head.Expected.{Expected}
+use Rattle.mapfile.specs.Fields.{expectedOf}
+use Rattle.mapfile.specs.declared.head.Expected.{Expected}
 use Rattle.model.specs.Map as map
 use Rattle.model.specs.MapFile as model
 use Rattle.model.specs.Refusal.{short}
@@ -15,8 +15,8 @@ use Rattle.visibility.proofs.Determinate.{holds-one}
 use Rattle.held.specs.Holds.{Holds, Tables, needs}
 use Rattle.held.specs.declared.map.Map.{Map}
 use Rattle.mapfile.specs.Reads.{FieldRead, HoldsMap, HoldsReader, Left, LeftAt, Says}
-use Rattle.reader.specs.declared.state.Reader.{Reader}
-use Rattle.reader.specs.declared.state.Reading.{Reading}
+use Rattle.mapfile.specs.declared.state.Reader.{Reader}
+use Rattle.mapfile.specs.declared.state.Reading.{Reading}
 
 -- ---- structs that hold one reader
 back : model.Expected → Expected

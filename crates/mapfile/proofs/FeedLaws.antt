@@ -7,11 +7,11 @@ use mathlib.Core.List.{List, [], _∷_, _++_, append-assoc}
 use lib.Dec.{eqb}
 use lib.ListN.{drop, getD, length, length-append, length-drop, take}
 use borrow.Author.Tests.{le-ltb}
-use Rattle.fields.proofs.FieldLaws.{field-head}
-use Rattle.fields.proofs.WindowLaws.{first-done, first-more, first-refused, readAll, wide-field}
-use Rattle.fields.specs.Fields.{dueAt, expectedOf, lengthAt}
-use Rattle.fields.specs.Windows.{Wide, extend}
-use Rattle.fields.specs.declared.head.Expected.{Expected}
+use Rattle.mapfile.proofs.ByteLaws.{field-head}
+use Rattle.mapfile.proofs.WindowLaws.{first-done, first-more, first-refused, readAll, wide-field}
+use Rattle.mapfile.specs.Fields.{dueAt, expectedOf, lengthAt}
+use Rattle.mapfile.specs.Windows.{Wide, extend}
+use Rattle.mapfile.specs.declared.head.Expected.{Expected}
 use Rattle.model.specs.Limits.{maxCells, maxPoints}
 use Rattle.model.specs.Map as map
 use Rattle.model.specs.MapFile as model
@@ -23,9 +23,9 @@ use Rattle.held.specs.Holds.{Holds, Tables, needs}
 use Rattle.held.specs.declared.map.Map.{Map}
 use Rattle.mapfile.specs.Feeds.{EndsAs, Feeds, fill, on, stop-done, stop-refused}
 use Rattle.mapfile.specs.Reads.{HoldsMap, HoldsReader, LeftAt}
-use Rattle.reader.specs.Moves.{begun}
-use Rattle.reader.specs.declared.state.Reader.{Reader}
-use Rattle.reader.specs.declared.state.Reading.{Reading}
+use Rattle.mapfile.specs.Moves.{begun}
+use Rattle.mapfile.specs.declared.state.Reader.{Reader}
+use Rattle.mapfile.specs.declared.state.Reading.{Reading}
 
 -- ---- each field that is taken has the next number
 abbrev Next : ℕ → model.Reading → Type 0

@@ -8,17 +8,17 @@ use lib.Dec.{eqb}
 use lib.ListN.{drop, getD, length, take, length-drop}
 use lib.Seq.{drop-drop, length-take-le}
 use borrow.Author.Tests.{eq-eqb, eqb-true, ne-eqb}
-use Rattle.fields.proofs.FieldLaws.{field-head, head-fits, head-flags, head-placed, head-short, head-within, headed}
-use Rattle.fields.specs.Fields.{dueAt, expectedOf, headOf, lengthAt}
-use Rattle.fields.specs.declared.head.Expected.{Expected}
-use Rattle.fields.specs.declared.head.Head.{Head}
+use Rattle.mapfile.proofs.ByteLaws.{field-head, head-fits, head-flags, head-placed, head-short, head-within, headed}
+use Rattle.mapfile.specs.Fields.{dueAt, expectedOf, headOf, lengthAt}
+use Rattle.mapfile.specs.declared.head.Expected.{Expected}
+use Rattle.mapfile.specs.declared.head.Head.{Head}
 use Rattle.model.specs.MapFile as model
 use Rattle.model.specs.MapFile.{badFlag, entryBytes, oneField, stopped, takeBatch, takeEnd, taken}
 use Rattle.model.specs.Refusal.{short}
 use Rattle.held.specs.Holds.{Tables, needs}
 use Rattle.mapfile.specs.Reads.{FieldRead, HoldsReader, Left, Says, Took, stoppedAs, stoppedAt}
-use Rattle.reader.specs.declared.state.Reader.{Reader}
-use Rattle.reader.specs.declared.state.Reading.{Reading}
+use Rattle.mapfile.specs.declared.state.Reader.{Reader}
+use Rattle.mapfile.specs.declared.state.Reading.{Reading}
 use Rattle.mapfile.proofs.TakeLaws.{holds-at, no-more}
 
 -- ---- a head that is read, by its number

@@ -7,7 +7,7 @@ use mathlib.Core.List.{List, []}
 use lib.Ieee.{Float}
 use lib.ListN.{length, take}
 use lib.Seq.{take-all}
-use Rattle.fields.specs.declared.head.Expected.{Expected}
+use Rattle.mapfile.specs.declared.head.Expected.{Expected}
 use Rattle.model.specs.Map as map
 use Rattle.model.specs.MapFile as model
 use Rattle.model.specs.MapFile.{float64, takeRadius}
@@ -17,9 +17,9 @@ use Rattle.held.specs.Holds.{Holds, Tables, needs}
 use Rattle.visibility.specs.Open.{Opening}
 use Rattle.held.specs.declared.map.Outcome.{Outcome}
 use Rattle.mapfile.specs.Reads.{HoldsReader, Took}
-use Rattle.reader.specs.Moves.{movedOn}
-use Rattle.reader.specs.declared.state.Reader.{Reader}
-use Rattle.reader.specs.declared.state.Reading.{Reading}
+use Rattle.mapfile.specs.Moves.{movedOn}
+use Rattle.mapfile.specs.declared.state.Reader.{Reader}
+use Rattle.mapfile.specs.declared.state.Reading.{Reading}
 use Rattle.mapfile.proofs.TakeLaws.{Goes, holds-at, not-zero, took-more, took-refused}
 
 -- where no table is short and the size is good, an opening is refused by the radius alone

@@ -7,8 +7,8 @@ use mathlib.Core.List.{List}
 use lib.Ieee.{Float}
 use lib.ListN.{drop, length, take}
 use lib.Seq.{take-all}
-use Rattle.fields.specs.Fields.{expectedOf}
-use Rattle.fields.specs.declared.head.Expected.{Expected}
+use Rattle.mapfile.specs.Fields.{expectedOf}
+use Rattle.mapfile.specs.declared.head.Expected.{Expected}
 use Rattle.model.specs.Map as map
 use Rattle.model.specs.MapFile as model
 use Rattle.model.specs.MapFile.{float64, takeEnd, takeSize}
@@ -16,9 +16,9 @@ use Rattle.model.specs.Refusal.{badSize, nothing, short}
 use Rattle.held.specs.Holds.{Tables, needs}
 use Rattle.held.specs.declared.map.Map.{Map}
 use Rattle.mapfile.specs.Reads.{HoldsMap, HoldsReader, LeftAt, Took, sizeTaken}
-use Rattle.reader.specs.Moves.{movedOn}
-use Rattle.reader.specs.declared.state.Reader.{Reader}
-use Rattle.reader.specs.declared.state.Reading.{Reading}
+use Rattle.mapfile.specs.Moves.{movedOn}
+use Rattle.mapfile.specs.declared.state.Reader.{Reader}
+use Rattle.mapfile.specs.declared.state.Reading.{Reading}
 
 -- ---- answers are told apart
 pub no-more : (n f u : ℕ) (r : Reader) → Reading.Refused n f ≡ Reading.More r u → ⊥

@@ -2,13 +2,13 @@
 use Prim.Native.Nat.{ℕ}
 use mathlib.Core.List.{List, [], _++_}
 use lib.ListN.{drop}
-use Rattle.fields.specs.Windows.{Wide}
+use Rattle.mapfile.specs.Windows.{Wide}
 use Rattle.model.specs.MapFile as model
 use Rattle.held.specs.Holds.{Tables}
 use Rattle.held.specs.declared.map.Map.{Map}
 use Rattle.mapfile.specs.Reads.{FieldRead, Says}
-use Rattle.reader.specs.declared.state.Reader.{Reader}
-use Rattle.reader.specs.declared.state.Reading.{Reading}
+use Rattle.mapfile.specs.declared.state.Reader.{Reader}
+use Rattle.mapfile.specs.declared.state.Reading.{Reading}
 
 -- from the reader r and the tables t, the window w and the bytes that were not read, to the last answer and the tables then
 pub data Feeds : Reader → Tables → List ℕ → List ℕ → Reading → Tables → Type 0 where

@@ -4,8 +4,8 @@ use mathlib.Core.Path.{_≡_}
 use mathlib.Core.Bool.{true, false, cond}
 use mathlib.Core.List.{List}
 use lib.ListN.{drop, length, take}
-use Rattle.fields.specs.Fields.{expectedOf}
-use Rattle.fields.specs.declared.head.Expected.{Expected}
+use Rattle.mapfile.specs.Fields.{expectedOf}
+use Rattle.mapfile.specs.declared.head.Expected.{Expected}
 use Rattle.model.specs.Limits.{maxBatch}
 use Rattle.model.specs.Map as map
 use Rattle.model.specs.MapFile as model
@@ -13,9 +13,9 @@ use Rattle.model.specs.MapFile.{badFlag, entryBytes, float64, oneField, takeBat
 use Rattle.model.specs.Refusal.{badSize, short}
 use Rattle.held.specs.Holds.{Behind, Holds, Tables, needs, noMap}
 use Rattle.held.specs.declared.map.Map.{Map}
-use Rattle.reader.specs.Moves.{movedOn}
-use Rattle.reader.specs.declared.state.Reader.{Reader}
-use Rattle.reader.specs.declared.state.Reading.{Reading}
+use Rattle.mapfile.specs.Moves.{movedOn}
+use Rattle.mapfile.specs.declared.state.Reader.{Reader}
+use Rattle.mapfile.specs.declared.state.Reading.{Reading}
 
 -- ---- the state
 -- what is known of the map by what is expected: there is none before field 02 was taken, and the cell size is good once field 01 was

@@ -1,13 +1,13 @@
 // One field of a map file.
+use crate::head::Expected;
+use crate::head::read_head;
+use crate::state::Reader;
+use crate::state::Reading;
+use crate::state::onward;
+use crate::value::float_at;
+use crate::value::numbers_of;
 use answers::judge::lacks;
-use fields::head::Expected;
-use fields::head::read_head;
-use fields::value::float_at;
-use fields::value::numbers_of;
 use limits::judge::bad_size;
-use reader::state::Reader;
-use reader::state::Reading;
-use reader::state::onward;
 use visibility::change::change_cells;
 use visibility::open::open;
 ghost use mathlib.Core.Path.{_≡_};

@@ -11,7 +11,7 @@ use lib.Dec.{eqb, ltb}
 use lib.ListN.{length, getD, set, length-set}
 use borrow.Author.Tests.{lt-ltb, le-ltb, eq-eqb, ne-eqb}
 use Rattle.ieee.proofs.Tools.{lt-or-ge, not-both}
-use Rattle.lists.proofs.Front.{mix, mix-more, mix-whole}
+use Rattle.table.proofs.Front.{mix, mix-more, mix-whole}
 use Rattle.model.specs.Corner.{number, zero4}
 use Rattle.model.specs.Good.{bitsIn, bitsOf}
 use Rattle.model.specs.Layer.{Point, Points}

@@ -13,7 +13,7 @@ use Rattle.model.specs.Cell.{Dir}
 use Rattle.model.specs.ClosedForm.{queues}
 use Rattle.model.specs.Corner.{Bits, anyBit, number, setBit}
 use Rattle.model.proofs.BitLaws.{no-bit, clear-zero}
-use Rattle.corner_bits.proofs.StatusLaws.{any-is}
+use Rattle.corner.proofs.StatusLaws.{any-is}
 use Rattle.marks.specs.declared.mood.Mood.{Mood}
 use Rattle.marks.specs.Standing.{Small, Standing, marked, mood, word}
 

@@ -14,7 +14,7 @@ use Rattle.model.specs.Limits.{maxPoints}
 use Rattle.model.specs.Maps.{Asc, AscL, has, keys}
 use Rattle.model.proofs.OrderLaws.{asc-keys}
 use Rattle.table.specs.Listed.{Listed, values}
-use Rattle.copy.specs.Copied.{Copied}
+use Rattle.table.specs.Copied.{Copied}
 use Rattle.table.specs.Tables.{All, Table, pad, rank}
 use Rattle.table.proofs.ListedLaws.{keys-length, values-length}
 use Rattle.table.proofs.RankLaws.{rank-le}

@@ -1,16 +1,16 @@
 // The keys that the marks can speak of: the old points, and those that a mark brings. They are gathered first, so that what
 // is kept of each stands still while the marks are made.
-use corner_bits::Corner;
-use corner_bits::CornerStatus;
-use insert::change::insert;
+use corner::bits::Corner;
+use corner::bits::CornerStatus;
 use std::num::wrapping_add_u64;
 use std::num::wrapping_sub_u64;
+use table::change::insert;
 ghost use mathlib.Core.Path.{_≡_};
 ghost use mathlib.Core.List.{List};
 ghost use Prim.Native.Nat.{ℕ, _+_, _<_, _≤_};
 ghost use lib.ListN.{length, take};
 ghost use Rattle.corner.specs.Changes.{numbered};
-ghost use Rattle.corner_bits.specs.Corners.{dir};
+ghost use Rattle.corner.specs.Weights.{dir};
 ghost use Rattle.model.specs.Cell.{move};
 ghost use Rattle.model.specs.ClosedForm.{stand};
 ghost use Rattle.model.specs.Corner.{Bits, number};

@@ -2,7 +2,7 @@
 use crate::gather::gather;
 use crate::run::begin;
 use crate::run::mark_all;
-use copy::copy::copy;
+use table::copy::copy;
 ghost use mathlib.Core.Path.{_≡_};
 ghost use mathlib.Core.List.{List};
 ghost use Prim.Native.Nat.{ℕ, _<_, _≤_};

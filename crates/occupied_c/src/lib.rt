@@ -1,12 +1,12 @@
 // The cells and corners of a map under C names. Each function is the call of that name, with its contract.
+use answers::cells::Told;
+use answers::cells::corner_cells;
+use answers::cells::is_occupied;
+use answers::cells::occupied_cells;
 use answers::judge::Count;
-use floor::cell::Cell;
 use held::map::Map;
-use occupied::cells::Told;
-use occupied::cells::corner_cells;
-use occupied::cells::is_occupied;
-use occupied::cells::occupied_cells;
-ghost use Rattle.occupied.specs.Lists.{CornerCells, IsOccupied, OccupiedCells};
+use limits::cell::Cell;
+ghost use Rattle.answers.specs.CellLists.{CornerCells, IsOccupied, OccupiedCells};
 
 // Whether a cell is occupied.
 #[no_mangle]

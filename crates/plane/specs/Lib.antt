@@ -1,2 +1,3 @@
 -- What the contracts of crate `plane` cite.
+pub mod Edge
 pub mod Values

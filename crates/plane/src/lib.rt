@@ -1,2 +1,3 @@
 // Points and vectors of floats: what segments and the grid stand on.
+pub mod cell;
 pub mod point;

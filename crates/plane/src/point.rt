@@ -82,7 +82,7 @@ impl Vector {
     pub fn norm(self) -> f64
         ensures { λ r. ⌜ r ≡ norm (vec self) ⌝ }
     {
-        root::root::root(self.dot(self))
+        ieee::root::root(self.dot(self))
     }
 
     // A quarter turn to the left.

@@ -16,13 +16,13 @@ use Rattle.model.specs.Maps.{find, has}
 use Rattle.model.specs.Plane.{Pt, minus, norm, tiny, cellOf}
 use Rattle.model.specs.Shape.{lowEnd, highEnd, inBox, inCircle, inStrip, stripOf, pointTest, squareTest, circleTest, sweepTest}
 use Rattle.shape.specs.Bounds.{inBounds}
-use Rattle.circle.specs.Circle.{circleMeets, circleOf}
+use Rattle.shape.specs.Circle.{circleMeets, circleOf}
 use Rattle.shape.specs.Sweep.{strip, rowsOf, columnsOf}
 use Rattle.shape.specs.declared.bounds.Bounds.{Bounds}
-use Rattle.circle.specs.declared.circle.Circle.{Circle}
+use Rattle.shape.specs.declared.circle.Circle.{Circle}
 use Rattle.shape.specs.declared.sweep.Strip.{Strip}
 use Rattle.shape.proofs.BoundsLaws.{looked}
-use Rattle.circle.proofs.CircleLaws.{circle-in-box, circle-out-of-box}
+use Rattle.shape.proofs.CircleLaws.{circle-in-box, circle-out-of-box}
 use Rattle.shape.proofs.SweepLaws.{sweep-cells}
 use Rattle.table.specs.Tables.{All}
 use Rattle.table.proofs.AllLaws.{all-map}

@@ -12,17 +12,17 @@ use lib.ListN.{length, take, drop, getD, take-append-drop, drop-of-length-le}
 use lib.Seq.{drop-cons, drop-drop, length-take-le}
 use borrow.Author.Tests.{lt-ltb, le-ltb, lt-leb, le-leb, eq-eqb, ne-eqb}
 use Rattle.ieee.proofs.Tools.{lt-or-ge}
-use Rattle.lists.proofs.Parts.{tail-is}
+use Rattle.table.proofs.Parts.{tail-is}
 use Rattle.model.specs.Cell.{W, col, row}
 use Rattle.model.specs.Maps.{AscL, find, sift}
 use Rattle.shape.specs.Bounds.{inBounds}
 use Rattle.shape.specs.declared.bounds.Bounds.{Bounds}
-use Rattle.columns.specs.Columns.{InColumn, columnOf, rowsFrom}
+use Rattle.table.specs.Columns.{InColumn, columnOf, rowsFrom}
 use Rattle.table.specs.Tables.{All, rank}
 use Rattle.table.proofs.AllLaws.{all-at, all-from, all-map, ascL-all, ascL-drop}
-use Rattle.columns.proofs.ColumnLaws.{column-ascends, column-one, rows-ascend}
+use Rattle.table.proofs.ColumnLaws.{column-ascends, column-one, rows-ascend}
 use Rattle.table.proofs.RankLaws.{rank-le, rank-splits}
-use Rattle.columns.proofs.SiftLaws.{sift-below, sift-same}
+use Rattle.table.proofs.SiftLaws.{sift-below, sift-same}
 use Rattle.question.specs.Walk.{Shape, columnTaken, flat, keyed, passes, rowTaken, rowsAt, taken}
 use Rattle.question.specs.declared.search.Found.{Found}
 use Rattle.question.proofs.FindLaws.{all-kept, all-rest, find-agree, find-back, find-front, find-here, find-later, find-nowhere, find-sift}

@@ -1,3 +1,6 @@
 -- What the contracts of crate `question` cite.
+pub mod Answer
+pub mod Ask
+pub mod Numbered
 pub mod Question
 pub mod Walk

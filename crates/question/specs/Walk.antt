@@ -7,10 +7,10 @@ use lib.Ieee.{Float, binary64, add, sub, div}
 use Rattle.model.specs.Cell.{col, row}
 use Rattle.model.specs.Shape as model
 use Rattle.shape.specs.Bounds.{between, inBounds}
-use Rattle.circle.specs.Circle.{circleMeets}
+use Rattle.shape.specs.Circle.{circleMeets}
 use Rattle.shape.specs.Sweep.{strip, rowsOf}
 use Rattle.shape.specs.declared.bounds.Bounds.{Bounds}
-use Rattle.circle.specs.declared.circle.Circle.{Circle}
+use Rattle.shape.specs.declared.circle.Circle.{Circle}
 use Rattle.shape.specs.declared.sweep.Strip.{Strip}
 use Rattle.question.specs.declared.search.Found.{Found}
 

@@ -2,9 +2,9 @@
 use crate::walk::first_flat;
 use crate::walk::first_round;
 use crate::walk::first_swept;
-use circle::circle::Circle;
 use plane::point::Point;
 use shape::bounds::Bounds;
+use shape::circle::Circle;
 use shape::sweep::Strip;
 use table::place::contains;
 ghost use mathlib.Core.Bool.{cond};

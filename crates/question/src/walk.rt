@@ -2,18 +2,18 @@
 // are a stretch that begins inside it. There is a walk for each shape: a square and a circle can look at one cell
 // before they cut its column out of the table, a strip has to work out its rows first.
 use crate::search::Found;
-use circle::circle::Circle;
-use columns::column::column;
-use columns::column::rows_from;
 use shape::bounds::Bounds;
+use shape::circle::Circle;
 use shape::sweep::Strip;
+use table::column::column;
+use table::column::rows_from;
 use table::place::place;
 ghost use mathlib.Core.Path.{_≡_};
 ghost use Prim.Native.Nat.{ℕ};
 ghost use Rattle.model.specs.Maps.{AscL, find};
 ghost use Rattle.shape.specs.Bounds.{inBounds};
 ghost use Rattle.shape.specs.declared.bounds.Bounds.{Bounds};
-ghost use Rattle.columns.specs.Columns.{InColumn};
+ghost use Rattle.table.specs.Columns.{InColumn};
 ghost use Rattle.question.specs.Walk.{columnTaken, flat, keyed, round, rowTaken, swept, taken};
 
 // Keys from one column to the next.

@@ -5,7 +5,7 @@ use mathlib.Core.Path.{_≡_, refl, ap}
 use mathlib.Core.List.{List, [], _∷_, _++_}
 use mathlib.Core.Option.{Option, none, some}
 use lib.ListN.{length}
-use Rattle.edges.specs.Columns.{greaters, lessers, pairBlocks}
+use Rattle.answers.specs.Columns.{greaters, lessers, pairBlocks}
 use Rattle.held.specs.Layers.{blocksOf, statusesOf}
 use Rattle.model.specs.Good.{Good}
 use Rattle.model.specs.Layer.{Edges, Layer, Pair, Points, edge, pairOf, pairs, pairsFrom}

@@ -2,4 +2,8 @@
 pub mod CallLaws
 pub mod ColumnLaws
 pub mod Determinate
+pub mod DeterminateFile
+pub mod EndLaws
+pub mod FileLaws
 pub mod MapLaws
+pub mod ReadingLaws

@@ -10,8 +10,8 @@ use lib.ListN.{drop, length, length-append, length-drop, take}
 use lib.Seq.{take-at}
 use borrow.Author.Tests.{le-leb}
 use Rattle.answers.specs.Asking.{Written}
-use Rattle.edges.specs.Columns.{greaters, lessers, pairBlocks}
-use Rattle.floor.proofs.FloorLaws.{holds-cells}
+use Rattle.answers.specs.Columns.{greaters, lessers, pairBlocks}
+use Rattle.limits.proofs.FloorLaws.{holds-cells}
 use Rattle.held.proofs.LayerLaws.{codes-count, layer-blocks, layer-keys, layer-statuses, statuses-length}
 use Rattle.held.specs.Layers.{blocksOf, statusesOf}
 use Rattle.model.specs.Answers.{allPairs, corners, openPairs}

@@ -1,2 +1,3 @@
 -- What the contracts of crate `report` cite.
+pub mod Filed
 pub mod Reported

@@ -1,8 +1,8 @@
 // The counts of a listing's first line.
+use answers::cells::corner_cells;
+use answers::pairs::open_pairs;
 use blocks::count::count_blocks;
-use edges::pairs::open_pairs;
 use held::map::Map;
-use occupied::cells::corner_cells;
 use print::counts::Counts;
 ghost use mathlib.Core.Path.{_≡_};
 ghost use mathlib.Core.Bool.{false};

@@ -1,3 +1,4 @@
 // The listing of a map.
 mod counts;
+pub mod file;
 pub mod map;

@@ -4,7 +4,7 @@ use answers::judge::Count;
 use answers::judge::lacks;
 use answers::judge::refuse;
 use answers::judge::refused;
-use edges::pairs::all_pairs;
+use answers::pairs::all_pairs;
 use held::map::Map;
 use print::counts::put_counts;
 use print::pairs::put_pairs;

@@ -19,7 +19,7 @@ use Rattle.ieee.proofs.MonotoneSum.{sub-both, sub-mono, sub-anti, add-number, s
 use Rattle.ieee.proofs.MonotoneProduct.{mul-mono, mul-anti, mul-commutes, mul-neg, mul-number, square-high, square-mono, square-anti}
 use Rattle.model.specs.Plane.{Pt, minus, times, dot, tiny}
 use Rattle.segment.specs.Spans.{Small, SmallLine, up, down, Above, Below}
-use Rattle.spot.specs.Edge.{edgeOf}
+use Rattle.plane.specs.Edge.{edgeOf}
 use Rattle.segment.specs.Squared.{squared}
 use Rattle.plane.specs.Values.{pt, vec}
 use Rattle.segment.specs.declared.measured.Measured.{Measured}

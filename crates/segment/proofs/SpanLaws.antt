@@ -16,7 +16,7 @@ use Rattle.model.specs.Plane.{Pt, lowCorner}
 use Rattle.model.specs.Segment.{passesNear}
 use Rattle.segment.specs.Many.{inSpan, inSpans, Ready}
 use Rattle.segment.specs.Spans.{Small, SmallLine, Wide, IsSpan}
-use Rattle.spot.specs.Edge.{edgeOf}
+use Rattle.plane.specs.Edge.{edgeOf}
 use Rattle.segment.specs.Near.{IsProximity, decided, nearBy}
 use Rattle.segment.specs.Squared.{measuredOf, squared}
 use Rattle.plane.specs.Values.{pt, vec}

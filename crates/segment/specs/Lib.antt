@@ -2,6 +2,7 @@
 pub mod Crossing
 pub mod Many
 pub mod Near
+pub mod Search
 pub mod Spans
 pub mod Squared
 pub mod Values

@@ -4,7 +4,7 @@ use mathlib.Core.Path.{_≡_}
 use mathlib.Core.Bool.{true, cond}
 use lib.Ieee.{Float, binary64, sub, mul, neg, lt, le}
 use Rattle.ieee.specs.Constants.{nought, pow2}
-use Rattle.spot.specs.Edge.{edgeOf}
+use Rattle.plane.specs.Edge.{edgeOf}
 use Rattle.segment.specs.declared.measured.Measured.{Measured}
 use Rattle.segment.specs.declared.near.Proximity.{Proximity}
 use Rattle.segment.specs.declared.spans.Span.{Span}

@@ -4,4 +4,5 @@ pub mod many;
 mod measured;
 mod meets;
 pub mod near;
+pub mod search;
 mod spans;

@@ -34,7 +34,7 @@ impl LineSegment {
     pub fn distance_from_point(self, p: Point) -> f64
         ensures { λ r. ⌜ r ≡ distance (seg self) (pt p) ⌝ }
     {
-        root::root::root(self.measured().square_to(p))
+        ieee::root::root(self.measured().square_to(p))
     }
 }
 

@@ -3,7 +3,7 @@
 use crate::line::LineSegment;
 use crate::measured::Measured;
 use crate::meets;
-use spot::cell::corner;
+use plane::cell::corner;
 ghost use mathlib.Core.Path.{_≡_};
 ghost use Rattle.model.specs.Segment.{passesNear};
 ghost use Rattle.segment.specs.Near.{IsProximity, nearBy};
@@ -28,8 +28,8 @@ impl Proximity {
         Proximity {
             size,
             limit,
-            near: root::threshold::root_threshold(radius),
-            far: root::threshold::root_threshold(limit),
+            near: ieee::threshold::root_threshold(radius),
+            far: ieee::threshold::root_threshold(limit),
         }
     }
 }

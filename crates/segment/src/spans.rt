@@ -3,13 +3,13 @@
 // out they hold the more, since every step is monotone.
 use crate::measured::Measured;
 use crate::near::Proximity;
-use spot::cell::begins;
+use plane::cell::begins;
 use std::num::wrapping_sub_u64;
 ghost use mathlib.Core.Path.{_≡_};
 ghost use mathlib.Core.Bool.{true, _&&_};
 ghost use Prim.Native.Nat.{_+_, _-_, _<_};
 ghost use lib.Dec.{leb, ltb};
-ghost use Rattle.spot.specs.Edge.{edgeOf};
+ghost use Rattle.plane.specs.Edge.{edgeOf};
 ghost use Rattle.segment.specs.Spans.{Above, Below, IsSpan, Small, SmallLine, Wide, down, up};
 
 // The columns, or rows, that are to be looked at, both ends included.

@@ -10,14 +10,14 @@
 // An operand that is not used is 0. The key and the 1 or 0 are plain numbers, all else are bit patterns of f64.
 // An answer is how many values there are, then the first and the second, 0 where there is none. The near test
 // answers 1 or 0, and no value.
-use extent::search::SearchF64;
 use libc::STDOUT_FILENO;
-use patterns::float_at;
-use patterns::pattern_at;
-use patterns::pattern_of;
 use plane::point::Point;
+use replay::patterns::float_at;
+use replay::patterns::pattern_at;
+use replay::patterns::pattern_of;
 use segment::line::Crossings;
 use segment::line::LineSegment;
+use segment::search::SearchF64;
 ghost use Prim.Native.Nat.{_<_};
 
 fn point_at(line: &[u8], from: usize) -> Point
@@ -77,15 +77,15 @@ fn answer(function: u8, line: &[u8]) -> Crossings {
 // One line, and whether there may be another.
 fn replay() -> bool {
     let mut line = [0u8; 121];
-    if !vectors::read_line(&mut line) {
+    if !replay::lines::read_line(&mut line) {
         return false;
     }
     let a = answer(line[0], &line);
     line[120] = b' ';
     io::write_all(STDOUT_FILENO, &line);
-    vectors::write_pattern(a.count as u64, b" ");
-    vectors::write_pattern(pattern_of(a.first), b" ");
-    vectors::write_pattern(pattern_of(a.second), b"\n")
+    replay::lines::write_pattern(a.count as u64, b" ");
+    replay::lines::write_pattern(pattern_of(a.first), b" ");
+    replay::lines::write_pattern(pattern_of(a.second), b"\n")
 }
 
 // A proved loop has to end, and nothing says that the input does: the turns are counted down.

@@ -11,7 +11,7 @@ use lib.Ieee.{Float}
 use Rattle.table.proofs.ListedLaws.{keys-at}
 use Rattle.batches.proofs.WriteLaws.{listed-lengths}
 use Rattle.limits.specs.Batches.{flags}
-use Rattle.lists.proofs.Front.{mix, mix-done, mix-more}
+use Rattle.table.proofs.Front.{mix, mix-done, mix-more}
 use Rattle.marks.specs.Standing.{Small, Standing, mood, word}
 use Rattle.marks.specs.declared.mood.Mood.{Mood}
 use Rattle.model.specs.Batch.{Batch}

@@ -2,10 +2,10 @@
 use looks::quadrant::sees;
 use looks::tests::sweep_between;
 use marks::mood::Mood;
+use plane::cell::centre;
 use segment::line::LineSegment;
 use segment::many::NearTest;
 use segment::near::Proximity;
-use spot::cell::centre;
 ghost use mathlib.Core.Path.{_≡_};
 ghost use mathlib.Core.Option.{Option, none};
 ghost use Prim.Native.Nat.{ℕ, _+_, _*_, _<_, _≤_};

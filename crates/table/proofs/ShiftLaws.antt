@@ -8,9 +8,9 @@ use mathlib.Core.List.{List, [], _∷_, _++_}
 use lib.ListN.{length, take, drop, getD, set, length-append, length-drop, List·getD-append}
 use lib.Seq.{length-take-le, getD-take, getD-at, drop-cons, set-at}
 use borrow.Rule.Slice.PartMut.{putMid}
-use Rattle.lists.proofs.Back.{mix-before, mix-less}
-use Rattle.lists.proofs.Front.{mix, mix-at, mix-more, mix-whole}
-use Rattle.lists.proofs.Parts.{tail-is, tail-back}
+use Rattle.table.proofs.Back.{mix-before, mix-less}
+use Rattle.table.proofs.Front.{mix, mix-at, mix-more, mix-whole}
+use Rattle.table.proofs.Parts.{tail-is, tail-back}
 use Rattle.table.specs.Tables.{putAt, shiftUp, shiftDown}
 
 -- ---- one place up

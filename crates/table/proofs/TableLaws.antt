@@ -11,7 +11,7 @@ use lib.ListN.{length, take, drop, replicate, length-append, length-replicate, t
 use lib.Seq.{length-take-le, take-append-seam, drop-append-seam, take-take, drop-drop, drop-cons}
 use borrow.Author.Tests.{le-leb, lt-leb, leb-true}
 use borrow.Rule.Slice.PartMut.{putMid, post-is}
-use Rattle.lists.proofs.Parts.{part-is}
+use Rattle.table.proofs.Parts.{part-is}
 use Rattle.model.specs.Maps.{AscL, add, cut}
 use Rattle.model.proofs.OrderLaws.{ascL-add, ascL-cut}
 use Rattle.table.specs.Tables.{Changed, Table, added, pad, putAt, rank, shiftDown, stands}

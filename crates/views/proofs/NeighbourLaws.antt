@@ -12,7 +12,7 @@ use lib.Seq.{length-take-le}
 use Rattle.answers.specs.Asking.{Front, HoldsSome, Written, refusedWith}
 use Rattle.answers.specs.declared.judge.Count.{Count}
 use Rattle.answers.proofs.ListingLaws.{listing-done}
-use Rattle.floor.proofs.FloorLaws.{holds-cells}
+use Rattle.limits.proofs.FloorLaws.{holds-cells}
 use Rattle.model.specs.Answers.{free, neighbours}
 use Rattle.model.specs.Cell.{key}
 use Rattle.model.specs.Good.{Inside}

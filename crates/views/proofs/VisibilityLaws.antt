@@ -10,7 +10,7 @@ use lib.Seq.{getD-drop, getD-take, length-take-le}
 use borrow.Author.Tests.{lt-ltb}
 use Rattle.answers.specs.Asking.{Front, HoldsSome}
 use Rattle.answers.proofs.ListingLaws.{listing-done}
-use Rattle.floor.proofs.FloorLaws.{holds-cells}
+use Rattle.limits.proofs.FloorLaws.{holds-cells}
 use Rattle.held.specs.Layers.{blocksOf, edgeAt, statusesOf}
 use Rattle.model.specs.Answers.{free, freePoints, fromElsewhere, fromPoint, visibleFrom}
 use Rattle.model.specs.Cell.{key}

@@ -1,7 +1,7 @@
 // What is seen from a cell, and its neighbours, under C names. Each function is the call of that name, with its contract.
 use answers::judge::Count;
-use floor::cell::Cell;
 use held::map::Map;
+use limits::cell::Cell;
 use views::neighbours::neighbours;
 use views::visibility_from::visibility_from;
 ghost use Rattle.views.specs.Seen.{Beside, InSight};

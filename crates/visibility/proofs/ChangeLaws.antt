@@ -10,8 +10,8 @@ use lib.Dec.{ltb}
 use lib.IntN.{ℤ}
 use lib.ListN.{length, take}
 use borrow.Author.Tests.{lt-ltb, le-ltb, ltb-false}
-use Rattle.floor.proofs.FloorLaws.{holds-cells}
-use Rattle.floor.specs.Floor as floor
+use Rattle.limits.proofs.FloorLaws.{holds-cells}
+use Rattle.limits.specs.Floor as floor
 use Rattle.limits.specs.Batches.{entries, ragged}
 use Rattle.model.proofs.RunLaws.{passed, or-parts}
 use Rattle.model.specs.Batch.{cellsAfter}

@@ -12,7 +12,7 @@ use lib.IntN.{ℤ}
 use lib.ListN.{drop, getD, length}
 use lib.Seq.{ext-getD, getD-drop}
 use Rattle.ieee.proofs.Tools.{lt-or-ge}
-use Rattle.floor.specs.Floor as floor
+use Rattle.limits.specs.Floor as floor
 use Rattle.limits.specs.Batches.{entries, ragged}
 use Rattle.model.specs.Limits.{maxCells, maxPoints}
 use Rattle.held.specs.Layers.{blocksOf, edgeAt, statusesOf}

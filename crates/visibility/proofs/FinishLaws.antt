@@ -9,8 +9,8 @@ use lib.ListN.{drop, length, length-append, take}
 use lib.Seq.{length-take-le}
 use Rattle.batches.proofs.AlterLaws.{flags-keys}
 use Rattle.batches.proofs.CommitLaws.{Commits, committed, committed-behind, committed-holds}
-use Rattle.floor.proofs.FloorLaws.{holds-cells}
-use Rattle.floor.specs.Floor as floor
+use Rattle.limits.proofs.FloorLaws.{holds-cells}
+use Rattle.limits.specs.Floor as floor
 use Rattle.model.proofs.BatchLaws.{cells-order}
 use Rattle.model.specs.Cell.{reach}
 use Rattle.model.specs.Limits.{maxCells, maxPoints, needConfirmed, needCorners}
@@ -19,7 +19,7 @@ use Rattle.model.specs.Maps.{keys}
 use Rattle.sight.specs.Blocked.{Seeing, Stood, wordsOf}
 use Rattle.table.proofs.ListedLaws.{keys-length, values-length}
 use Rattle.table.specs.Listed.{Listed, values}
-use Rattle.copy.specs.Copied.{Copied}
+use Rattle.table.specs.Copied.{Copied}
 use Rattle.table.specs.Tables.{pad}
 use Rattle.visibility.specs.Change.{Done, changesOf, cornersOf}
 use Rattle.held.specs.Holds.{Behind, Holds, Tables}

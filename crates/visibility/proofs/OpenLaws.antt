@@ -8,7 +8,7 @@ use mathlib.Core.List.{List, [], _++_}
 use lib.Ieee.{Float}
 use lib.ListN.{drop, length, replicate, take}
 use borrow.Author.Tests.{le-ltb}
-use Rattle.floor.proofs.FloorLaws.{holds-none}
+use Rattle.limits.proofs.FloorLaws.{holds-none}
 use Rattle.model.proofs.RunLaws.{Sound, open-sound}
 use Rattle.model.specs.Limits.{maxCells, maxPoints}
 use Rattle.model.specs.Map.{emptyLayer, fresh}

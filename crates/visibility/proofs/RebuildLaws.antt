@@ -10,7 +10,7 @@ use lib.ListN.{length, length-replicate, replicate, take}
 use borrow.Author.Tests.{le-ltb, lt-ltb, ltb-false}
 use Rattle.corner.specs.Changes.{Cornered, numbered}
 use Rattle.corner.proofs.ChangeLaws.{inside-inner}
-use Rattle.floor.proofs.FloorLaws.{holds-cells}
+use Rattle.limits.proofs.FloorLaws.{holds-cells}
 use Rattle.marks.specs.Marked.{Marking}
 use Rattle.model.specs.Cell.{reach}
 use Rattle.model.specs.ClosedForm.{Closed}

@@ -6,7 +6,7 @@ use mathlib.Core.Path.{_≡_, refl, sym, ap, _∙_}
 use mathlib.Core.List.{List, [], _∷_, _++_}
 use mathlib.Core.Option.{Option}
 use lib.ListN.{length, take, drop, getD, replicate, set, length-set}
-use Rattle.lists.proofs.Front.{mix, mix-done, mix-more}
+use Rattle.table.proofs.Front.{mix, mix-done, mix-more}
 use Rattle.marks.specs.Standing.{Small, Standing, mood, word}
 use Rattle.marks.specs.declared.mood.Mood.{Mood}
 use Rattle.model.specs.Batch.{Batch}
@@ -18,7 +18,7 @@ use Rattle.sight.specs.Blocked.{Fitting, Seeing, Stood, pointBlocks, wordsOf}
 use Rattle.held.specs.Codes.{codes}
 use Rattle.sight.proofs.BlockLaws.{blocks-length, fitting-at, words-at, words-length}
 use Rattle.held.proofs.LayerLaws.{codes-length}
-use Rattle.copy.specs.Copied.{Copied}
+use Rattle.table.specs.Copied.{Copied}
 use Rattle.table.specs.Tables.{pad}
 use Rattle.table.proofs.ListedLaws.{keys-length}
 use Rattle.table.proofs.TableLaws.{pad-length, pad-take}

@@ -17,7 +17,7 @@ use Rattle.model.specs.Limits.{maxPoints}
 use Rattle.held.specs.Codes.{pairCode}
 use Rattle.sight.specs.Paired.{Filled}
 use Rattle.held.specs.Pairs.{Pairs, PairsNamed, pairPlace, pairPlaces}
-use Rattle.copy.specs.Copied.{Copied}
+use Rattle.table.specs.Copied.{Copied}
 use Rattle.visibility.specs.Redraw.{Below, InRows}
 use Rattle.visibility.proofs.ClearLaws.{cleared, cleared-at, cleared-drop, cleared-is, cleared-length, cleared-past}
 

@@ -10,7 +10,7 @@ use lib.IntN.{ℤ}
 use lib.ListN.{length, length-replicate, replicate, take}
 use borrow.Author.Tests.{ltb-false, ltb-true}
 use Rattle.corner.specs.Changes.{numbered}
-use Rattle.floor.proofs.FloorLaws.{holds-cells}
+use Rattle.limits.proofs.FloorLaws.{holds-cells}
 use Rattle.limits.specs.Batches.{entries, flags}
 use Rattle.limits.proofs.EntryLaws.{entries-length}
 use Rattle.marks.specs.Marked.{Marking}

@@ -8,7 +8,7 @@ use lib.Dec.{ltb}
 use lib.IntN.{ℤ}
 use lib.ListN.{length}
 use Rattle.corner.specs.Changes.{numbered}
-use Rattle.floor.specs.Floor as floor
+use Rattle.limits.specs.Floor as floor
 use Rattle.limits.specs.Batches.{disorder, entries, flags, ragged}
 use Rattle.model.specs.Batch.{cellsAfter, confirmed, cornerChanges}
 use Rattle.model.specs.Limits.{maxBatch, maxCells, maxPoints, needConfirmed, needCorners}

@@ -1,10 +1,10 @@
 // A layer's four tables, drawn anew.
-use copy::bytes::copy_bytes;
-use copy::copy::clear;
-use copy::copy::copy;
 use marks::mood::Mood;
 use sight::blocker::block_points;
 use sight::pair::join_pairs;
+use table::bytes::copy_bytes;
+use table::copy::clear;
+use table::copy::copy;
 ghost use mathlib.Core.Path.{_≡_};
 ghost use mathlib.Core.List.{List, [], _++_};
 ghost use mathlib.Core.Option.{Option};

@@ -1,12 +1,12 @@
 // Opening a map.
 use crate::judge::short_tables;
 use crate::refusal::refused;
-use copy::bytes::clear_bytes;
-use copy::copy::clear;
 use held::map::Map;
 use held::map::Outcome;
 use limits::judge::bad_size;
-use radii::radius::bad_radius;
+use limits::radius::bad_radius;
+use table::bytes::clear_bytes;
+use table::copy::clear;
 ghost use Rattle.visibility.specs.Open.{Opening};
 
 // Clears the tables up to their fixed need.

@@ -1,10 +1,10 @@
 // What a batch on a map comes to, worked out before any table is altered.
 use batches::batch::confirm;
-use corners::changes::corner_changes;
+use corner::changes::corner_changes;
 use held::map::Map;
+use limits::radius::reach_of;
+use limits::radius::shift_of;
 use marks::points::mark_points;
-use radii::radius::reach_of;
-use radii::radius::shift_of;
 ghost use mathlib.Core.Path.{_≡_};
 ghost use mathlib.Core.Bool.{false};
 ghost use mathlib.Core.List.{List};

@@ -6,10 +6,10 @@ use corner::cells::corner_cells;
 use held::map::Map;
 use held::map::Outcome;
 use limits::judge::bad_size;
+use limits::radius::bad_radius;
+use limits::radius::reach_of;
+use limits::radius::shift_of;
 use marks::points::mark_points;
-use radii::radius::bad_radius;
-use radii::radius::reach_of;
-use radii::radius::shift_of;
 ghost use mathlib.Core.Path.{_≡_};
 ghost use Rattle.visibility.specs.Radius.{Rebuilding, refuseRadius};
 

@@ -5,7 +5,7 @@ use mathlib.Core.Path.{_≡_, ap, _∙_}
 use mathlib.Core.List.{List, _++_}
 use lib.ListN.{length, getD, set, take, drop, length-drop}
 use lib.Seq.{getD-drop, length-take-le, take-append-le, take-at, take-take}
-use Rattle.lists.proofs.Front.{mix, mix-at, mix-more}
+use Rattle.table.proofs.Front.{mix, mix-at, mix-more}
 
 -- one byte more stands in front: what is read at i is still b's
 pub down-more : (b c : List ℕ) (from i : ℕ) → from ≤ i → i < length b → c ≡ mix (drop from b) b (i - from)

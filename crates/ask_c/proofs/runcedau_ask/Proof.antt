@@ -1,8 +1,8 @@
 -- `runcedau_ask`: what `ask_numbered` answers, as a struct. Assumes nothing.
 use borrow.Author.Needs.{needs}
 use mathlib.Core.Path.{subst}
-use Rattle.map_questions.specs.Asks.{AsksNumbered}
-use Rattle.questions.specs.declared.numbered.Numbered.{Numbered}
+use Rattle.answers.specs.Asks.{AsksNumbered}
+use Rattle.question.specs.declared.numbered.Numbered.{Numbered}
 use Rattle.ask_c.proofs.runcedau_ask.Statement.{statement}
 use Rattle.ask_c.proofs.runcedau_ask.Tie as tie
 

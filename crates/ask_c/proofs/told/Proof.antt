@@ -2,7 +2,7 @@
 use borrow.Author.Needs.{needs}
 use mathlib.Core.Path.{refl, sym, ap}
 use Rattle.ask_c.specs.Told.{foundAs}
-use Rattle.questions.specs.declared.ask.Place.{Place}
+use Rattle.question.specs.declared.ask.Place.{Place}
 use Rattle.ask_c.proofs.told.Statement.{statement}
 use Rattle.ask_c.proofs.told.Tie as tie
 

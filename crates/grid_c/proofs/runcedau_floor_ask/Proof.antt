@@ -5,11 +5,11 @@ use lib.ListN.{length}
 use lib.Seq.{length-take-le}
 use borrow.Author.Needs.{needs}
 use Rattle.model.specs.Refusal.{badQuestion}
-use Rattle.questions.specs.Ask.{refuseAsk, refuseFloor}
-use Rattle.questions.specs.declared.numbered.Numbered.{Numbered}
+use Rattle.question.specs.Ask.{refuseAsk, refuseFloor}
+use Rattle.question.specs.declared.numbered.Numbered.{Numbered}
 use Rattle.question.specs.Question.{asked}
 use Rattle.question.specs.declared.search.Question.{Question}
-use Rattle.questions.proofs.AskLaws.{ask-fits}
+use Rattle.question.proofs.AskLaws.{ask-fits}
 use Rattle.grid_c.specs.Told.{Tells}
 use Rattle.grid_c.proofs.ToldLaws.{told-found, told-refused}
 use Rattle.grid_c.proofs.runcedau_floor_ask.Statement.{statement}

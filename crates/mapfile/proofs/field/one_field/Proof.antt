@@ -7,14 +7,14 @@ use mathlib.Core.List.{List}
 use lib.ListN.{length}
 use borrow.Author.Needs.{needs}
 use Rattle.answers.proofs.PassedLaws.{lacks-short, none-short}
-use Rattle.fields.specs.Fields.{expectedOf, headOf}
+use Rattle.mapfile.specs.Fields.{expectedOf, headOf}
 use Rattle.model.specs.MapFile as model
 use Rattle.model.specs.MapFile.{takeBatch, takeEnd, takeRadius, takeSize, taken}
 use Rattle.model.specs.Refusal.{short}
 use Rattle.held.specs.Holds.{Tables}
 use Rattle.held.specs.Holds as tables
 use Rattle.mapfile.specs.Reads.{FieldRead, Took}
-use Rattle.reader.specs.declared.state.Reading.{Reading}
+use Rattle.mapfile.specs.declared.state.Reading.{Reading}
 use Rattle.mapfile.proofs.FieldLaws.{batch-flags, batch-long, field-lacking, field-refused, field-stopped, field-taken, is-batch, is-end, never-end, radius-long, size-long, used-within, valueOf}
 use Rattle.mapfile.proofs.TakeLaws.{took-end, took-size}
 use Rattle.mapfile.proofs.field.one_field.Statement.{statement}

@@ -5,7 +5,7 @@ use mathlib.Core.Path.{_≡_, refl, sym, ap, _∙_}
 use mathlib.Core.Bool.{true}
 use mathlib.Core.List.{List}
 use lib.ListN.{length, getD, length-set}
-use Rattle.corner_bits.specs.Corners.{dir}
+use Rattle.corner.specs.Weights.{dir}
 use Rattle.table.specs.Tables.{stands}
 use Rattle.table.proofs.LookLaws.{stands-inside}
 use Rattle.marks.specs.declared.mood.Mood.{Mood}

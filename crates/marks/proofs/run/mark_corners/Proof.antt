@@ -2,7 +2,7 @@
 use Prim.Native.Nat.{_-_}
 use native.Mathlib.Omega.{arith}
 use mathlib.Core.Path.{ap, _∙_}
-use Rattle.corner_bits.specs.Corners.{dir}
+use Rattle.corner.specs.Weights.{dir}
 use Rattle.model.specs.Cell.{Dir}
 use Rattle.model.specs.Corner.{bit}
 use Rattle.marks.proofs.RunLaws.{Four, four-none, four-more, four-done}

@@ -12,7 +12,7 @@ use lib.Seq.{length-take-le}
 use Rattle.answers.proofs.ListingLaws.{listing-done, listing-refused}
 use Rattle.answers.proofs.PassedLaws.{accepted, none-short, lacks-short}
 use Rattle.answers.specs.Asking.{refuseMap}
-use Rattle.edges.proofs.PointLaws.{used}
+use Rattle.answers.proofs.PointLaws.{used}
 use Rattle.model.specs.Refusal.{short}
 use Rattle.held.proofs.RoomLaws.{Enough}
 use Rattle.report.proofs.CallLaws.{call-accepted, map-accepted}

@@ -4,7 +4,7 @@ use borrow.Author.Needs.{needs}
 use lib.Ieee.{Float}
 use mathlib.Core.Path.{subst}
 use Rattle.segment.specs.Spans.{Above, Below}
-use Rattle.spot.specs.Edge.{edgeOf}
+use Rattle.plane.specs.Edge.{edgeOf}
 use Rattle.segment.proofs.spans.span_of.Statement.{statement}
 use Rattle.segment.proofs.spans.span_of.Tie as tie
 

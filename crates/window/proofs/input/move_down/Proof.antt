@@ -3,7 +3,7 @@ use Prim.Native.Nat.{_-_, _≤_}
 use native.Mathlib.Omega.{arith}
 use mathlib.Core.Path.{_≡_, refl}
 use lib.ListN.{drop, length, length-set}
-use Rattle.lists.proofs.Front.{mix}
+use Rattle.table.proofs.Front.{mix}
 use Rattle.window.proofs.Down.{down-more, down-done}
 use Rattle.window.proofs.input.move_down.Statement.{statement}
 use Rattle.window.proofs.input.move_down.Tie as tie

@@ -7,7 +7,7 @@ use lib.Dec.{eqb}
 use borrow.Author.Tests.{eqb-true, eqb-false}
 use borrow.Author.Needs.{needs}
 use Rattle.model.specs.Corner.{number, setBit}
-use Rattle.corner_bits.specs.Corners.{dir}
+use Rattle.corner.specs.Weights.{dir}
 use Rattle.marks.proofs.MoodLaws.{number-small, number-of, marked-is, first-now, first-queued, first-passed, old-gone, old-stays, queue-set, queue-cleared}
 use Rattle.marks.specs.declared.mood.Mood.{Mood}
 use Rattle.marks.specs.Standing.{Standing, marked, mood}
@@ -15,8 +15,8 @@ use Rattle.marks.proofs.mood.Mood.marked.Statement.{statement}
 use Rattle.marks.proofs.mood.Mood.marked.Tie as tie
 use Rattle.marks.proofs.mood.Mood.marked.Reads as reads
 use Rattle.marks.proofs.mood.Mood.marked.Lts as lts
-use Rattle.corner_bits.proofs.CornerStatus.is_corner.Reads as is-corner-reads
-use Rattle.corner_bits.proofs.CornerStatus.set.Reads as set-reads
+use Rattle.corner.proofs.bits.CornerStatus.is_corner.Reads as is-corner-reads
+use Rattle.corner.proofs.bits.CornerStatus.set.Reads as set-reads
 
 -- src/mood.rt:43:13
 set-requires : tie.Need-set-requires

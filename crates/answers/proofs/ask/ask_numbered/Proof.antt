@@ -1,0 +1,114 @@
+-- `ask::ask_numbered`: the refusal that is due, or what the search finds. Assumes nothing.
+use borrow.Author.Needs.{needs}
+use mathlib.Core.Path.{_≡_, sym, ap, subst, _∙_}
+use mathlib.Core.Bool.{false}
+use mathlib.Core.List.{[]}
+use Rattle.model.specs.Refusal.{badQuestion}
+use Rattle.answers.specs.CellLists.{Lent, due}
+use Rattle.answers.proofs.CellLaws.{used}
+use Rattle.question.specs.Question.{asked}
+use Rattle.question.specs.declared.search.Question.{Question}
+use Rattle.question.specs.Answer.{nowhere}
+use Rattle.question.specs.Numbered.{badNumbered}
+use Rattle.question.specs.declared.numbered.Numbered.{Numbered}
+use Rattle.answers.specs.Asks.{AsksNumbered}
+use Rattle.answers.proofs.AskLaws.{asking-done, asking-refused, due-told, question-told}
+use Rattle.answers.proofs.ask.ask_numbered.Statement.{statement}
+use Rattle.answers.proofs.ask.ask_numbered.Tie as tie
+
+abbrev start : tie.After-refuse → tie.Start
+start p = p .before .before .before .before
+
+-- what was judged, of the number as it was matched
+number : (p : tie.After-refuse) (n : Numbered) → start p .args .numbered ≡ n → let a = start p .args in p .refuse .result ≡ due (a .map) (a .cells .now) [] (badNumbered n)
+number p n e =
+    let a = start p .args in
+    let b = p .before in
+    due-told (a .map) (a .cells .now) (b .before .lacks .result) (b .bad-numbered .result) (p .refuse .result) (b .before .lacks .ensures) (p .refuse .ensures)
+    ∙ ap (due (a .map) (a .cells .now) []) (b .bad-numbered .ensures ∙ ap badNumbered e)
+
+-- the question that the number names
+abbrev judged : tie.After-known-told → tie.After-refuse
+judged k = k .before .before .before
+
+abbrev known : tie.After-known-told → Question
+known k = k .before .numbered .given .0 .0
+
+number-known : (k : tie.After-known-told) → let a = start (judged k) .args in judged k .refuse .result ≡ due (a .map) (a .cells .now) [] (badQuestion (asked (known k)))
+number-known k = number (judged k) (Numbered.Known (known k)) (k .before .numbered .given .1)
+
+lacks-requires : tie.Need-lacks-requires
+lacks-requires c κs = tt
+
+bad-numbered-requires : tie.Need-bad-numbered-requires
+bad-numbered-requires c κs = tt
+
+refuse-requires : tie.Need-refuse-requires
+refuse-requires c κs = tt
+
+enum-known-numbered : tie.Need-enum-known-numbered
+enum-known-numbered c = search needs
+
+enum-told : tie.Need-enum-told
+enum-told c = search needs
+
+refused-requires : tie.Need-refused-requires
+refused-requires c κs = tt
+
+returns : tie.Need-returns
+returns c =
+    let u = c .before in
+    let p = u .before .before in
+    let a = start p .args in
+    let e = u .enum-told .given .1 in
+    subst (λ (n : Numbered). AsksNumbered (a .map) (a .cells .now) n (c .refused .result)) (sym e) (c .refused .ensures ∙ ap nowhere (number p Numbered.Unknown e))
+
+refused-requires-2 : tie.Need-refused-requires-2
+refused-requires-2 c κs = tt
+
+returns-2 : tie.Need-returns-2
+returns-2 c =
+    let k = c .before .before in
+    let a = start (judged k) .args in
+    subst (λ (n : Numbered). AsksNumbered (a .map) (a .cells .now) n (c .refused2 .result)) (sym (k .before .numbered .given .1))
+    (asking-refused _ (judged k .refuse .result) (Lent (a .map) (a .cells .now)) (number-known k) (known k) (c .refused2 .result) (c .before .if1 .taken) (c .refused2 .ensures))
+
+slice-aggregate-search : tie.Need-slice-aggregate-search
+slice-aggregate-search c =
+    let e = c .before in
+    let a = start (judged (e .before)) .args in
+    used (a .map) (a .cells .now) [] false (badQuestion (asked (known (e .before)))) (sym (number-known (e .before)) ∙ e .if1 .left)
+
+search-requires : tie.Need-search-requires
+search-requires c κs = tt
+
+place-of-requires : tie.Need-place-of-requires
+place-of-requires c κs = tt
+
+returns-3 : tie.Need-returns-3
+returns-3 c =
+    let s = c .before in
+    let e = s .before .before in
+    let k = e .before in
+    let a = start (judged k) .args in
+    subst (λ (n : Numbered). AsksNumbered (a .map) (a .cells .now) n (record { refusal = 0; cell = c .place-of .result })) (sym (k .before .numbered .given .1))
+    (asking-done _ (judged k .refuse .result) (Lent (a .map) (a .cells .now)) (number-known k) (known k) (c .place-of .result) (e .if1 .left)
+    (question-told (a .map) (a .cells .now) (known k) (s .search .result) (c .place-of .result) (c .place-of .ensures) (s .search .ensures)))
+
+pub ask-numbered-spec : {M : Type 1} → statement M
+ask-numbered-spec =
+    tie.close
+    (tie.spec
+    lacks-requires
+    bad-numbered-requires
+    refuse-requires
+    enum-known-numbered
+    enum-told
+    refused-requires
+    returns
+    refused-requires-2
+    returns-2
+    slice-aggregate-search
+    search-requires
+    place-of-requires
+    returns-3)

@@ -1,0 +1,60 @@
+-- `cells::is_occupied`: the refusal that is due, or whether the table has the cell. Assumes nothing.
+use mathlib.Core.Path.{_≡_, sym, ap, _∙_}
+use mathlib.Core.Bool.{Bool, false}
+use mathlib.Core.List.{[], _∷_}
+use lib.ListN.{length}
+use Rattle.answers.proofs.PassedLaws.{lacks-short, none-short}
+use Rattle.answers.specs.Asking.{refuseMap}
+use Rattle.model.specs.Limits.{maxCells}
+use Rattle.model.specs.Refusal.{short}
+use Rattle.answers.specs.CellLists.{Lent}
+use Rattle.answers.proofs.CellLaws.{occupied-told, used}
+use Rattle.answers.proofs.FoundLaws.{telling-done, telling-refused}
+use Rattle.answers.proofs.cells.is_occupied.Statement.{statement}
+use Rattle.answers.proofs.cells.is_occupied.Tie as tie
+
+abbrev start : tie.After-refuse → tie.Start
+start p = p .before .before .before
+
+due : (p : tie.After-refuse) → let a = start p .args in p .refuse .result ≡ refuseMap (short ((length (a .cells .now), maxCells) ∷ [])) (a .map) false false
+due p =
+    let a = start p .args in
+    p .refuse .ensures ∙ ap (λ (s : Bool). refuseMap s (a .map) false false) (lacks-short (length (a .cells .now)) maxCells [] false (p .before .lacks .result) (p .before .lacks .ensures) none-short)
+
+lacks-requires : tie.Need-lacks-requires
+lacks-requires c κs = tt
+
+refuse-requires : tie.Need-refuse-requires
+refuse-requires c κs = tt
+
+returns : tie.Need-returns
+returns c =
+    let a = start (c .before) .args in
+    telling-refused _ (c .before .refuse .result) (Lent (a .map) (a .cells .now)) (due (c .before)) (a .cell .x) (a .cell .y) (c .if1 .taken)
+
+slice-aggregate-is-occupied : tie.Need-slice-aggregate-is-occupied
+slice-aggregate-is-occupied c =
+    let e = c .before in
+    let a = start (e .before) .args in
+    used (a .map) (a .cells .now) [] false false (sym (due (e .before)) ∙ e .if1 .left)
+
+is-occupied-requires : tie.Need-is-occupied-requires
+is-occupied-requires c κs = tt
+
+returns-2 : tie.Need-returns-2
+returns-2 c =
+    let e = c .before .before in
+    let a = start (e .before) .args in
+    telling-done _ (e .before .refuse .result) (Lent (a .map) (a .cells .now)) (due (e .before)) (a .cell .x) (a .cell .y) (c .is-occupied .result) (e .if1 .left)
+    (occupied-told (a .map) (a .cells .now) (a .cell .x) (a .cell .y) (c .is-occupied .result) (c .is-occupied .ensures))
+
+pub is-occupied-spec : {M : Type 1} → statement M
+is-occupied-spec =
+    tie.close
+    (tie.spec
+    lacks-requires
+    refuse-requires
+    returns
+    slice-aggregate-is-occupied
+    is-occupied-requires
+    returns-2)

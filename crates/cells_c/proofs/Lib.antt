@@ -1,2 +1,0 @@
--- The laws of crate `cells_c`.
-pub mod PlaceLaws

@@ -1,2 +1,0 @@
--- What the contracts of crate `cells_c` cite.
-pub mod Places

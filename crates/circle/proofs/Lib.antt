@@ -1,2 +1,0 @@
--- The laws of crate `circle`.
-pub mod CircleLaws

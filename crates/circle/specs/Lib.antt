@@ -1,2 +1,0 @@
--- What the contracts of crate `circle` cite.
-pub mod Circle

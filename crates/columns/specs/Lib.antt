@@ -1,2 +1,0 @@
--- What the contracts of crate `columns` cite.
-pub mod Columns

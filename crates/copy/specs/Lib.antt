@@ -1,2 +1,0 @@
--- What the contracts of crate `copy` cite.
-pub mod Copied

@@ -1,2 +1,0 @@
--- The laws of crate `corner_bits`.
-pub mod StatusLaws

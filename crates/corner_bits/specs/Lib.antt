@@ -1,2 +1,0 @@
--- What the contracts of crate `corner_bits` cite.
-pub mod Corners

@@ -1,3 +1,0 @@
-// The corner changes of a batch.
-pub mod changes;
-mod window;

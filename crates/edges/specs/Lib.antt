@@ -1,4 +1,0 @@
--- What the contracts of crate `edges` cite.
-pub mod Columns
-pub mod Lists
-pub mod Walks

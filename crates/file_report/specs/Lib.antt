@@ -1,2 +1,0 @@
--- What the contracts of crate `file_report` cite.
-pub mod Filed

@@ -1,2 +1,0 @@
-// The listing of the bytes of a map file.
-pub mod file;

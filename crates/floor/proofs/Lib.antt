@@ -1,2 +1,0 @@
--- The laws of crate `floor`.
-pub mod FloorLaws

@@ -1,2 +1,0 @@
--- What the contracts of crate `floor`, and of those above it, cite.
-pub mod Floor

@@ -1,0 +1,72 @@
+-- `root::threshold::near` meets its contract: two roots, at patterns side by side. Assumes nothing.
+use mathlib.Core.Path.{_∙_, sym}
+use native.Mathlib.Omega.{arith}
+use borrow.Author.Needs.{needs}
+use Rattle.ieee.proofs.Thresholds.{none-first, this-first, next-first}
+use Rattle.ieee.proofs.threshold.near.Statement.{statement}
+use Rattle.ieee.proofs.threshold.near.Tie as tie
+
+returns : tie.Need-returns
+returns c = none-first (c .before .args .b)
+
+reaches-requires : tie.Need-reaches-requires
+reaches-requires c κs = search needs
+
+returns-2 : tie.Need-returns-2
+returns-2 c = none-first (c .before .before .before .before .args .b)
+
+sub-reaches : tie.Need-sub-reaches
+sub-reaches c = search needs
+
+reaches-requires-2 : tie.Need-reaches-requires-2
+reaches-requires-2 c κs = search needs
+
+returns-3 : tie.Need-returns-3
+returns-3 c = none-first (c .before .before .before .before .before .before .args .b)
+
+-- the root at n reaches b, and the one before it does not
+returns-4 : tie.Need-returns-4
+returns-4 c =
+    let at = c .before .before .before in
+    let s = at .before .before .before .args in
+    this-first (s .b) (s .n) (omega arith) (sym (c .before .reaches2 .ensures) ∙ c .if4 .left) (sym (at .before .reaches .ensures) ∙ at .if2 .taken)
+
+returns-5 : tie.Need-returns-5
+returns-5 c = none-first (c .before .before .before .before .args .b)
+
+add-reaches : tie.Need-add-reaches
+add-reaches c = search needs
+
+reaches-requires-3 : tie.Need-reaches-requires-3
+reaches-requires-3 c κs = search needs
+
+add-result : tie.Need-add-result
+add-result c = search needs
+
+-- the root at n does not reach b, and the one after it does
+returns-6 : tie.Need-returns-6
+returns-6 c =
+    let at = c .before .before .before in
+    let s = at .before .before .before .args in
+    next-first (s .b) (s .n) (omega arith) (sym (at .before .reaches .ensures) ∙ at .if2 .left) (sym (c .before .reaches3 .ensures) ∙ c .if6 .taken)
+
+returns-7 : tie.Need-returns-7
+returns-7 c = none-first (c .before .before .before .before .before .before .args .b)
+
+pub near-spec : {M : Type 1} → statement M
+near-spec =
+    tie.close
+    (tie.spec
+    returns
+    reaches-requires
+    returns-2
+    sub-reaches
+    reaches-requires-2
+    returns-3
+    returns-4
+    returns-5
+    add-reaches
+    reaches-requires-3
+    add-result
+    returns-6
+    returns-7)

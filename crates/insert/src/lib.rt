@@ -1,2 +1,0 @@
-// Keys put into a table, and taken out of it.
-pub mod change;

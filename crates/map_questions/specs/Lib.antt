@@ -1,2 +1,0 @@
--- What the contracts of crate `map_questions` cite.
-pub mod Asks

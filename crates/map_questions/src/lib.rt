@@ -1,2 +1,0 @@
-// The question of four shapes, put to a map.
-pub mod ask;

@@ -1,0 +1,3 @@
+-- What the contracts of crate `no_panics` cite.
+pub mod Casts
+pub mod EdgeRows

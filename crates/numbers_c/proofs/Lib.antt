@@ -1,0 +1,3 @@
+-- The laws of crate `numbers_c`.
+pub mod CellsLaws
+pub mod PlaceLaws

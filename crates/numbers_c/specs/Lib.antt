@@ -1,0 +1,3 @@
+-- What the contracts of crate `numbers_c` cite.
+pub mod Cells
+pub mod Places

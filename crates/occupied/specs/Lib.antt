@@ -1,3 +1,0 @@
--- What the contracts of crate `occupied` cite.
-pub mod Found
-pub mod Lists

@@ -1,2 +1,0 @@
--- The laws of crate `patterns`.
-pub mod PatternLaws

@@ -1,2 +1,0 @@
--- What the contracts of crate `patterns` cite.
-pub mod Patterns

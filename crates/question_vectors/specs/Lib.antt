@@ -1,2 +1,0 @@
--- What the contracts of crate `question_vectors` cite.
-pub mod Lines

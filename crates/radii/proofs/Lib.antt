@@ -1,2 +1,0 @@
--- The laws of crate `radii`.
-pub mod RadiusLaws

@@ -1,2 +1,0 @@
--- What the contracts of crate `reader` cite.
-pub mod Moves

@@ -1,0 +1,3 @@
+-- The laws of crate `replay`.
+pub mod EnterLaws
+pub mod PatternLaws

@@ -1,2 +1,0 @@
--- The laws of crate `segment_c`.
-pub mod CellsLaws

@@ -1,2 +1,0 @@
--- What the contracts of crate `segment_c` cite.
-pub mod Cells

@@ -1,2 +1,0 @@
--- What the contracts of crate `spot` cite.
-pub mod Edge

@@ -1,2 +1,0 @@
-// Where a cell lies on the plane: what segments, shapes and sight lines stand on.
-pub mod cell;

@@ -1,0 +1,127 @@
+-- `column::place_near`: the stretch that doubles ends at or after the place that is looked for. Assumes nothing.
+use native.Mathlib.Omega.{arith}
+use Prim.Native.Nat.{ℕ, _+_, _-_, _≤_, _<_}
+use mathlib.Core.Logic.{⊎-elim}
+use mathlib.Core.Path.{ap, _∙_}
+use lib.ListN.{length, drop, getD}
+use borrow.Author.Needs.{needs}
+use borrow.Author.Tests.{ltb-true, ltb-false}
+use Rattle.table.proofs.AllLaws.{ascL-take, ascL-drop}
+use Rattle.table.proofs.NearLaws.{Doubled, doubled-none, doubled-more, doubled-ends, doubled-out}
+use Rattle.table.proofs.column.place_near.Statement.{statement}
+use Rattle.table.proofs.column.place_near.Tie as tie
+
+abbrev Inv-loop : tie.InvT-loop
+Inv-loop t k at₀ n₀ at n = Doubled k t at n
+
+abbrev μ-loop : tie.MeasureT-loop
+μ-loop t k at₀ n₀ at n = length t - at
+
+loop-holds : tie.Need-loop-holds Inv-loop μ-loop
+loop-holds c = doubled-none (c .before .args .k) (c .before .args .t .now)
+
+mul-if1 : tie.Need-mul-if1 Inv-loop μ-loop
+mul-if1 c = omega arith
+
+shared-slice-read-if1 : tie.Need-shared-slice-read-if1 Inv-loop μ-loop
+shared-slice-read-if1 c = omega arith
+
+add-at : tie.Need-add-at Inv-loop μ-loop
+add-at c = omega arith
+
+mul-n : tie.Need-mul-n Inv-loop μ-loop
+mul-n c = omega arith
+
+add-n : tie.Need-add-n Inv-loop μ-loop
+add-n c = omega arith
+
+loop-less : tie.Need-loop-less Inv-loop μ-loop
+loop-less c = omega arith
+
+loop-again : tie.Need-loop-again Inv-loop μ-loop
+loop-again c =
+    let p = c .before .before .before in
+    let a = p .before .before .args in
+    doubled-more (a .k) (a .t .now) (p .loop .at) (p .loop .n) (p .loop .inv) (c .before .before .loop-test .taken) (ltb-true (getD (a .t .now) (p .loop .n) 0) (a .k) (c .if1 .taken))
+
+mul-place : tie.Need-mul-place Inv-loop μ-loop
+mul-place c = omega arith
+
+sub-place : tie.Need-sub-place Inv-loop μ-loop
+sub-place c = omega arith
+
+part-place-start : tie.Need-part-place-start Inv-loop μ-loop
+part-place-start c = omega arith
+
+part-place-end : tie.Need-part-place-end Inv-loop μ-loop
+part-place-end c = omega arith
+
+place-requires : tie.Need-place-requires Inv-loop μ-loop
+place-requires c κs = search needs
+
+add-result : tie.Need-add-result Inv-loop μ-loop
+add-result c = omega arith
+
+returns : tie.Need-returns Inv-loop μ-loop
+returns c =
+    let out = c .before .before .before in
+    let p = out .before in
+    let a = p .before .before .args in
+    let l = a .t .now in
+    let h : p .loop .n < length l = c .before .before .if2 .taken in
+    let stop : a .k ≤ getD l (p .loop .n) 0 = ⊎-elim (λ w. ltb-false (getD l (p .loop .n) 0) (a .k) (w .2 .left)) (λ w. absurd (omega (arith, w .left, h))) (out .loop-test .came) in
+    (omega arith, λ asc. ap (λ (r : ℕ). p .loop .at + r) (c .place .ensures .1 (ascL-take 0 (p .loop .n - p .loop .at) (drop (p .loop .at) l) (ascL-drop 0 (p .loop .at) l asc))) ∙ doubled-ends (a .k) l (p .loop .at) (p .loop .n) (p .loop .inv) h stop asc)
+
+mul-place-2 : tie.Need-mul-place-2 Inv-loop μ-loop
+mul-place-2 c = omega arith
+
+sub-place-2 : tie.Need-sub-place-2 Inv-loop μ-loop
+sub-place-2 c = omega arith
+
+part-place-start-2 : tie.Need-part-place-start-2 Inv-loop μ-loop
+part-place-start-2 c = omega arith
+
+part-place-end-2 : tie.Need-part-place-end-2 Inv-loop μ-loop
+part-place-end-2 c = omega arith
+
+place-requires-2 : tie.Need-place-requires-2 Inv-loop μ-loop
+place-requires-2 c κs = search needs
+
+add-result-2 : tie.Need-add-result-2 Inv-loop μ-loop
+add-result-2 c = omega arith
+
+returns-2 : tie.Need-returns-2 Inv-loop μ-loop
+returns-2 c =
+    let p = c .before .before .before .before in
+    let a = p .before .before .args in
+    let l = a .t .now in
+    (omega arith, λ asc. ap (λ (r : ℕ). p .loop .at + r) (c .place2 .ensures .1 (ascL-take 0 (length l - p .loop .at) (drop (p .loop .at) l) (ascL-drop 0 (p .loop .at) l asc))) ∙ doubled-out (a .k) l (p .loop .at) (p .loop .n) (p .loop .inv) asc)
+
+pub place-near-spec : {M : Type 1} → statement M
+place-near-spec =
+    tie.close
+    (tie.spec
+    Inv-loop
+    μ-loop
+    loop-holds
+    mul-if1
+    shared-slice-read-if1
+    add-at
+    mul-n
+    add-n
+    loop-less
+    loop-again
+    mul-place
+    sub-place
+    part-place-start
+    part-place-end
+    place-requires
+    add-result
+    returns
+    mul-place-2
+    sub-place-2
+    part-place-start-2
+    part-place-end-2
+    place-requires-2
+    add-result-2
+    returns-2)

@@ -1,2 +1,0 @@
--- The laws of crate `vectors`.
-pub mod EnterLaws

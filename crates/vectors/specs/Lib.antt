@@ -1,2 +1,0 @@
--- What the contracts of crate `vectors` cite.
-pub mod Entered
