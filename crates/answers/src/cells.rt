@@ -37,7 +37,11 @@ pub fn is_occupied(map: Map, cells: &[u64], cell: Cell) -> Told
 pub fn occupied_cells(map: Map, cells: &[u64], out: &mut [u64]) -> Count
     ensures { λ r. ⌜ OccupiedCells map (now (cells .entry)) (now (out .entry)) (now (out .exit)) r ⌝ }
 {
-    let short = lacks(cells.len(), 1024, lacks(out.len(), 1024, false));
+    let short = lacks(
+        cells.len(),
+        sizes::CELLS,
+        lacks(out.len(), sizes::CELLS, false),
+    );
     let number = refuse(short, map, false, false);
     if number != 0 {
         return refused(number);

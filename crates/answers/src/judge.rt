@@ -41,10 +41,10 @@ pub fn lacks(length: usize, need: usize, rest: bool) -> bool
 fn beyond_edge(z: i64) -> bool
     ensures { λ r. ⌜ r ≡ offMap (maxCoordinate + beyond) z ⌝ }
 {
-    if z < -1048640 {
+    if z < sizes::LEAST_ASKED {
         return true;
     }
-    1048640 < z
+    sizes::MOST_ASKED < z
 }
 
 // 5: whether a cell named in a question is.
@@ -74,10 +74,10 @@ pub fn refuse(short: bool, map: Map, off: bool, bad: bool) -> u8
     if off {
         return 5;
     }
-    if 1024 < map.cells {
+    if sizes::CELLS < map.cells {
         return 6;
     }
-    if 64 < map.points {
+    if sizes::POINTS < map.points {
         return 7;
     }
     if bad {

@@ -42,8 +42,8 @@ fn join_right(cells: &[u64], parents: &mut [usize], i: usize) -> usize
     if 18446744069414584320 <= k {
         return 0;
     }
-    let at = i + 1 + place(&cells[i + 1..], k + 4294967296);
-    join_at(cells, at, k + 4294967296, parents, i)
+    let at = i + 1 + place(&cells[i + 1..], k + sizes::COLUMN);
+    join_at(cells, at, k + sizes::COLUMN, parents, i)
 }
 
 // Plants the cell at place i, a tree of its own, and joins to it the trees of the cell above and of the one to the right. Both stand
@@ -62,10 +62,10 @@ pub fn count_blocks(cells: &[u64]) -> usize
     ensures { λ r. ⌜ Counted (now (cells .entry)) r ⌝ }
 {
     let n = cells.len();
-    if 1024 < n {
+    if sizes::CELLS < n {
         return 0;
     }
-    let mut parents = [0usize; 1024];
+    let mut parents = [0usize; sizes::CELLS];
     let mut joined = 0;
     let mut i = n;
     while 0 < i {

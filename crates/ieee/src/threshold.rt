@@ -16,7 +16,7 @@ fn reaches(b: f64, n: u64) -> bool
     requires { ⌜ n ≤ 2047 * 2 ^ 52 ⌝ }
     ensures { λ r. ⌜ r ≡ le b (rootF (ofBits binary64 n)) ⌝ }
 {
-    b <= crate::root(f64::from_bits(n))
+    b <= root::root(f64::from_bits(n))
 }
 
 // The first pattern whose root is at least b, where that is n or n + 1, and 0 elsewhere.
