@@ -1,4 +1,4 @@
-// What is refused before a batch is tried (document 01, refusals 1, 3, 4 and 5).
+// What is refused before a batch is tried (RULES 4.1: refusals 1, 3, 4 and 5).
 ghost use mathlib.Core.Path.{_≡_};
 ghost use mathlib.Core.Bool.{_&&_, _||_};
 ghost use lib.Signed.{leZ, ltZ};

@@ -1,4 +1,4 @@
--- What may be asked of a map (document 01; occupancy/mod.rs). Every list is ascending, but for the neighbours'. Definitions only.
+-- What may be asked of a map (RULES 2.2, 2.5; occupancy/mod.rs). Every list ascends. Definitions only.
 use Prim.Native.Nat.{ℕ}
 use mathlib.Core.Bool.{Bool, true, false, not, cond, _&&_}
 use mathlib.Core.List.{List, [], _∷_}

@@ -1,4 +1,4 @@
--- What a listing needs of a lent buffer (document 01, 'Map file and listing'). Definitions only.
+-- What a listing needs of a lent buffer (RULES 3.1). Definitions only.
 use Prim.Native.Nat.{ℕ, _+_, _*_}
 use Rattle.model.specs.Limits.{maxPoints, needPairs}
 use Rattle.print.specs.Printed.{firstRoom, lineRoom}

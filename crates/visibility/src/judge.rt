@@ -1,4 +1,4 @@
-// The refusal 9 of a map's tables (document 01).
+// The refusal 9 of a map's tables (RULES 2.1, 4.1).
 ghost use mathlib.Core.Path.{_≡_};
 ghost use mathlib.Core.List.{[], _∷_};
 ghost use Rattle.model.specs.Limits.{maxCells, maxPoints};
