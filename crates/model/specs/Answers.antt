@@ -83,7 +83,7 @@ fromElsewhere m k =
     let sweep = tests (m .size) (m .layer .radius) .sweep (m .cells) k in
     keys (sift (λ q. sees k (q .0) (q .1 .bits) && free (sweep (q .0) .cell)) (freePoints m))
 
--- the rows of the Rust's edge table are exactly the points, so 'has a row' is 'is a point' (crate `edge_rows`, `opened-rows`)
+-- the rows of the Rust's edge table are exactly the points, so 'has a row' is 'is a point' (crate `no_panics`, `opened-rows`)
 unfoldable pub visibleFrom : Map → ℕ → List ℕ
 visibleFrom m k =
     let a = fromPoint m k in

@@ -1,5 +1,5 @@
 // What the programs that replay vectors share: a line of fixed length from standard input, a letter and
-// operands of sixteen hexadecimal digits (crate `patterns`), and the answer's digits behind it on standard output.
+// operands of sixteen hexadecimal digits (patterns.rt), and the answer's digits behind it on standard output.
 
 use libc::STDIN_FILENO;
 use libc::STDOUT_FILENO;

@@ -1,4 +1,4 @@
--- `root::threshold::near` meets its contract: two roots, at patterns side by side. Assumes nothing.
+-- `ieee::threshold::near` meets its contract: two roots, at patterns side by side. Assumes nothing.
 use mathlib.Core.Path.{_∙_, sym}
 use native.Mathlib.Omega.{arith}
 use borrow.Author.Needs.{needs}

@@ -1,4 +1,4 @@
--- `root::threshold::root_threshold` meets its contract. The laws are in `proofs/Thresholds.antt`. Assumes nothing.
+-- `ieee::threshold::root_threshold` meets its contract. The laws are in `proofs/Thresholds.antt`. Assumes nothing.
 use mathlib.Core.Path.{_≡_}
 use mathlib.Core.Bool.{true}
 use Prim.Native.Nat.{_-_, _*_, _^_, _≤_}

@@ -1,4 +1,4 @@
--- `fields::value::numbers_of`: the entries passed are written. Assumes nothing.
+-- `mapfile::value::numbers_of`: the entries passed are written. Assumes nothing.
 use Prim.Native.Nat.{_+_, _-_, _*_, _^_, _≤_, _<_}
 use native.Mathlib.Omega.{arith}
 use mathlib.Core.Path.{ap, _∙_}

@@ -1,4 +1,4 @@
--- `vectors::change::write_changes` is safe and ends: the changes that are left fall. Assumes nothing.
+-- `replay::change::write_changes` is safe and ends: the changes that are left fall. Assumes nothing.
 use Prim.Native.Nat.{_-_}
 use native.Mathlib.Omega.{arith}
 use Rattle.replay.proofs.change.write_changes.Statement.{statement}
