@@ -65,7 +65,7 @@ fn root_checked(m: u64, c: u64) -> u64
     if c * 5 + 6 < f {
         return root_slow(m);
     }
-    // two sums and no branch: which of the three it is cannot be foretold
+    // two sums and no branch: which of the three it is cannot be predicted
     let mut r = c;
     if c < f {
         r += 1;

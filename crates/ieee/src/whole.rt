@@ -84,9 +84,9 @@ pub fn column_of(x: f64) -> u64
     ensures { λ r. ⌜ r ≡ biased (floorZ x) ⌝ }
 {
     if -2147483648.0 <= x && x <= 2147483647.0 {
-        let near = x + SHIFTER;
-        let n = f64::to_bits(near) - FIRST;
-        return n - (x < near - SHIFTER) as u64;
+        let rounded = x + SHIFTER;
+        let n = f64::to_bits(rounded) - FIRST;
+        return n - (x < rounded - SHIFTER) as u64;
     }
     column_beyond(x)
 }
@@ -96,9 +96,9 @@ pub fn column_up(x: f64) -> u64
     ensures { λ r. ⌜ r ≡ biased (ceilZ x) ⌝ }
 {
     if -2147483648.0 <= x && x <= 2147483647.0 {
-        let near = x + SHIFTER;
-        let n = f64::to_bits(near) - FIRST;
-        return n + (near - SHIFTER < x) as u64;
+        let rounded = x + SHIFTER;
+        let n = f64::to_bits(rounded) - FIRST;
+        return n + (rounded - SHIFTER < x) as u64;
     }
     column_beyond(x)
 }
