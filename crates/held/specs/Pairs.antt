@@ -4,8 +4,7 @@ use mathlib.Core.Path.{_≡_}
 use mathlib.Core.List.{List}
 use mathlib.Core.Option.{Option}
 use lib.ListN.{getD}
-use Rattle.model.specs.Limits.{maxPoints}
-pub use Rattle.model.specs.Limits.{pairPlaces}
+pub use Rattle.model.specs.Limits.{maxPoints, pairPlaces}
 use Rattle.held.specs.Codes.{NamedPair, pairCode}
 
 abbrev pub pairPlace : ℕ → ℕ → ℕ

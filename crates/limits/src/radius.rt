@@ -1,4 +1,5 @@
 // What is refused of a radius (document 01, refusal 2), and how far it reaches.
+use sizes::SHIFT;
 ghost use mathlib.Core.Path.{_≡_};
 ghost use Rattle.model.specs.Cell.{reach};
 ghost use Rattle.model.specs.Map.{shiftOf};
@@ -9,7 +10,7 @@ pub fn bad_radius(size: f64, radius: f64) -> bool
     ensures { λ r. ⌜ r ≡ badRadius size radius ⌝ }
 {
     if 0.0 <= radius && radius < f64::from_bits(9218868437227405312) {
-        return 64 < ieee::whole::ceil_to_i64(radius / size + 0.5);
+        return SHIFT < ieee::whole::ceil_to_i64(radius / size + 0.5);
     }
     true
 }

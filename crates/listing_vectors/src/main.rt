@@ -4,6 +4,7 @@
 use intake::output::Put;
 use intake::output::show_input;
 use libc::STDOUT_FILENO;
+use sizes::{LISTING, WINDOW};
 ghost use mathlib.Core.Path.{_≡_};
 ghost use Prim.Native.Nat.{_%_, _+_};
 ghost use Rattle.listing_vectors.specs.Names.{nameOf};
@@ -60,8 +61,8 @@ fn list_nowhere(buffer: &mut [u8], out: &mut [u8]) {
 }
 
 fn main() {
-    let mut buffer = [0u8; 2307];
-    let mut out = [0u8; 166656];
+    let mut buffer = [0u8; WINDOW];
+    let mut out = [0u8; LISTING];
     list_all(&mut buffer[..], &mut out[..]);
     list_file(b".", &mut buffer[..], &mut out[..]);
     list_nowhere(&mut buffer[..], &mut out[..]);

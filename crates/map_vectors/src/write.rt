@@ -4,6 +4,7 @@ use libc::STDOUT_FILENO;
 use replay::change::write_cell;
 use replay::lines::answer;
 use replay::lines::write_number;
+use sizes::POINTS;
 
 pub(crate) fn answer_count(line: &[u8], r: Count) {
     answer(line, &[r.refusal as u64, r.count as u64]);
@@ -38,11 +39,11 @@ pub(crate) fn write_pair(lesser: u64, greater: u64, blocker: u64, end: &[u8]) {
 // Writes the first `count` points.
 pub(crate) fn write_points(
     count: usize,
-    points: &[u64; 64],
-    statuses: &[u8; 64],
-    blockers: &[u64; 64],
+    points: &[u64; POINTS],
+    statuses: &[u8; POINTS],
+    blockers: &[u64; POINTS],
 ) {
-    if 64 < count {
+    if POINTS < count {
         return;
     }
     let mut i = 0;

@@ -7,6 +7,7 @@ use shape::bounds::Bounds;
 use shape::circle::Circle;
 use shape::sweep::Strip;
 use table::place::contains;
+use sizes::COLUMN;
 ghost use mathlib.Core.Bool.{cond};
 ghost use mathlib.Core.Option.{none, some};
 ghost use mathlib.Core.Path.{_≡_};
@@ -55,7 +56,7 @@ impl Found {
 fn point(size: f64, cells: &[u64], p: Point) -> Found
     ensures { λ r. ⌜ (AscL 0 (now (cells .entry)) → r ≡ foundAs (pointTest size (now (cells .entry)) (pt p))) ⌝ }
 {
-    let k = ieee::whole::column_of(p.x / size) * 4294967296 + ieee::whole::column_of(p.y / size);
+    let k = ieee::whole::column_of(p.x / size) * COLUMN + ieee::whole::column_of(p.y / size);
     Found::only(contains(cells, k), k)
 }
 

@@ -8,6 +8,7 @@ use shape::sweep::Strip;
 use table::column::column;
 use table::column::rows_from;
 use table::place::place;
+use sizes::COLUMN;
 ghost use mathlib.Core.Path.{_≡_};
 ghost use Prim.Native.Nat.{ℕ};
 ghost use Rattle.model.specs.Maps.{AscL, find};
@@ -17,7 +18,6 @@ ghost use Rattle.table.specs.Columns.{InColumn};
 ghost use Rattle.question.specs.Walk.{columnTaken, flat, keyed, round, rowTaken, swept, taken};
 
 // Keys from one column to the next.
-const WIDTH: u64 = 4294967296;
 
 // ---- one column
 
@@ -33,7 +33,7 @@ fn in_rows(y: u64, rows: Bounds) -> bool
 fn met_in_rows(k: u64, rows: Bounds, circle: Circle) -> bool
     ensures { λ r. ⌜ r ≡ columnTaken (round rows circle) 0 k ⌝ }
 {
-    if in_rows(k % WIDTH, rows) {
+    if in_rows(k % COLUMN, rows) {
         return circle.meets(k);
     }
     false
@@ -50,7 +50,7 @@ fn lowest(rows: &[u64], high: u64) -> Found
         };
     }
     let k = rows[0];
-    Found::only(k % WIDTH < high, k)
+    Found::only(k % COLUMN < high, k)
 }
 
 // The first of the cells from a row on that lies below the row `high` and that the circle meets.
@@ -60,7 +60,7 @@ fn first_met(rows: &[u64], high: u64, circle: Circle) -> Found
     let mut i = 0;
     while i < rows.len() {
         let k = rows[i];
-        if high <= k % WIDTH {
+        if high <= k % COLUMN {
             return Found {
                 some: false,
                 key: 0,
@@ -101,29 +101,29 @@ fn swept_in(col: &[u64], x: u64, strip: Strip, size: f64) -> Found
 pub(crate) fn first_flat(cells: &[u64], columns: Bounds, rows: Bounds) -> Found
     ensures { λ r. ⌜ (AscL 0 (now (cells .entry)) → r ≡ keyed (find (taken columns (flat rows)) (now (cells .entry)))) ⌝ }
 {
-    if WIDTH <= columns.low {
+    if COLUMN <= columns.low {
         return Found {
             some: false,
             key: 0,
         };
     }
-    if WIDTH <= rows.low {
+    if COLUMN <= rows.low {
         return Found {
             some: false,
             key: 0,
         };
     }
-    let mut i = place(cells, columns.low * WIDTH + rows.low);
+    let mut i = place(cells, columns.low * COLUMN + rows.low);
     while i < cells.len() {
         let k = cells[i];
-        let x = k / WIDTH;
+        let x = k / COLUMN;
         if columns.high <= x {
             return Found {
                 some: false,
                 key: 0,
             };
         }
-        if in_rows(k % WIDTH, rows) {
+        if in_rows(k % COLUMN, rows) {
             return Found { some: true, key: k };
         }
         let col = column(&cells[i..], x);
@@ -148,22 +148,22 @@ pub(crate) fn first_flat(cells: &[u64], columns: Bounds, rows: Bounds) -> Found
 pub(crate) fn first_round(cells: &[u64], columns: Bounds, rows: Bounds, circle: Circle) -> Found
     ensures { λ r. ⌜ (AscL 0 (now (cells .entry)) → r ≡ keyed (find (taken columns (round rows circle)) (now (cells .entry)))) ⌝ }
 {
-    if WIDTH <= columns.low {
+    if COLUMN <= columns.low {
         return Found {
             some: false,
             key: 0,
         };
     }
-    if WIDTH <= rows.low {
+    if COLUMN <= rows.low {
         return Found {
             some: false,
             key: 0,
         };
     }
-    let mut i = place(cells, columns.low * WIDTH + rows.low);
+    let mut i = place(cells, columns.low * COLUMN + rows.low);
     while i < cells.len() {
         let k = cells[i];
-        let x = k / WIDTH;
+        let x = k / COLUMN;
         if columns.high <= x {
             return Found {
                 some: false,
@@ -195,15 +195,15 @@ pub(crate) fn first_round(cells: &[u64], columns: Bounds, rows: Bounds, circle: 
 pub(crate) fn first_swept(cells: &[u64], columns: Bounds, strip: Strip, size: f64) -> Found
     ensures { λ r. ⌜ (AscL 0 (now (cells .entry)) → r ≡ keyed (find (taken columns (swept strip size)) (now (cells .entry)))) ⌝ }
 {
-    if WIDTH <= columns.low {
+    if COLUMN <= columns.low {
         return Found {
             some: false,
             key: 0,
         };
     }
-    let mut i = place(cells, columns.low * WIDTH);
+    let mut i = place(cells, columns.low * COLUMN);
     while i < cells.len() {
-        let x = cells[i] / WIDTH;
+        let x = cells[i] / COLUMN;
         if columns.high <= x {
             return Found {
                 some: false,

@@ -7,13 +7,13 @@ ghost use Rattle.plane.specs.Values.{pt, vec};
 ghost use Rattle.shape.specs.Circle.{circleOf, pointWithin, lineWithin, facing, sidesWithin, circleMeets};
 
 // What is the same for all cells. `square` is the radius's square. A cell whose centre's distance has a
-// square below `near` is met, and one where it is `far` or above is not.
+// square below `close` is met, and one where it is `far` or above is not.
 pub struct Circle {
     pub size: f64,
     pub p: Point,
     pub radius: f64,
     pub square: f64,
-    pub near: f64,
+    pub close: f64,
     pub far: f64,
 }
 
@@ -61,7 +61,7 @@ impl Circle {
             p,
             radius,
             square: radius * radius,
-            near: m * m,
+            close: m * m,
             far: n * n,
         }
     }
@@ -101,7 +101,7 @@ impl Circle {
         let p = self.p;
         let dp = p.minus(cell::centre(cell, size));
         let far = dp.dot(dp);
-        if far < self.near {
+        if far < self.close {
             return true;
         }
         if self.far <= far {

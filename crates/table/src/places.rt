@@ -3,6 +3,7 @@ use crate::look::begin;
 use crate::look::exponent;
 use crate::look::look;
 use crate::look::power;
+use sizes::COLUMN;
 ghost use mathlib.Core.Path.{_≡_};
 ghost use Prim.Native.Nat.{_+_, _*_, _^_, _<_, _≤_};
 ghost use lib.ListN.{length};
@@ -25,7 +26,7 @@ fn begin_all(t: &[u64], p: usize, low: u64) -> Places
 {
     Places {
         a: begin(t, p, low),
-        b: begin(t, p, low + 4294967296),
+        b: begin(t, p, low + COLUMN),
         c: begin(t, p, low + 8589934592),
         d: begin(t, p, low + 12884901888),
         e: begin(t, p, low + 17179869184),
@@ -40,7 +41,7 @@ fn look_all(t: &[u64], f: Places, s: u64, low: u64) -> Places
 {
     Places {
         a: look(t, f.a, s, low),
-        b: look(t, f.b, s, low + 4294967296),
+        b: look(t, f.b, s, low + COLUMN),
         c: look(t, f.c, s, low + 8589934592),
         d: look(t, f.d, s, low + 12884901888),
         e: look(t, f.e, s, low + 17179869184),
