@@ -21,8 +21,10 @@ use replay::patterns::integer_at;
 use replay::questions::answer_place;
 use replay::questions::cell_at;
 use replay::questions::question_at;
+use sizes::BATCH;
+use sizes::CELLS;
+use sizes::CORNERS;
 use table::copy::clear;
-use sizes::{BATCH, CELLS, CORNERS};
 
 // The floor, the numbers of the batch so far, and whether there was a line.
 struct State {

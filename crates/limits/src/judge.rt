@@ -1,5 +1,7 @@
 // What is refused before a batch is tried (document 01, refusals 1, 3, 4 and 5).
-use sizes::{BATCH, LEAST_COORDINATE, MOST_COORDINATE};
+use sizes::BATCH;
+use sizes::LEAST_COORDINATE;
+use sizes::MOST_COORDINATE;
 ghost use mathlib.Core.Path.{_≡_};
 ghost use mathlib.Core.Bool.{_&&_, _||_};
 ghost use lib.Signed.{leZ, ltZ};

@@ -4,7 +4,8 @@
 use intake::output::Put;
 use intake::output::show_input;
 use libc::STDOUT_FILENO;
-use sizes::{LISTING, WINDOW};
+use sizes::LISTING;
+use sizes::WINDOW;
 ghost use mathlib.Core.Path.{_≡_};
 ghost use Prim.Native.Nat.{_%_, _+_};
 ghost use Rattle.listing_vectors.specs.Names.{nameOf};

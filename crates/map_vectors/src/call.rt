@@ -14,11 +14,15 @@ use replay::change::write_changes;
 use replay::lines::answer;
 use replay::patterns::float_at;
 use replay::patterns::integer_at;
+use sizes::BATCH;
+use sizes::CELLS;
+use sizes::CORNERS;
+use sizes::PAIRS;
+use sizes::POINTS;
 use visibility::change::Changed;
 use visibility::change::change_cells;
 use visibility::open::open;
 use visibility::radius::change_radius;
-use sizes::{BATCH, CELLS, CORNERS, PAIRS, POINTS};
 
 // The map, the one whose tables are told (that before a refused opening, else the same), the numbers of the batch so far, and
 // whether there was a line.

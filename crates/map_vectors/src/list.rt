@@ -16,10 +16,18 @@ use answers::points::all_points;
 use answers::points::free_points;
 use held::map::Map;
 use replay::change::write_changes;
-use sizes::{CELLS, LISTED, PAIRS, POINTS};
+use sizes::CELLS;
+use sizes::LISTED;
+use sizes::PAIRS;
+use sizes::POINTS;
 
 // Writes the first `count` pairs.
-fn write_pairs(lesser: &[u64; LISTED], greater: &[u64; LISTED], blocks: &[u64; LISTED], count: usize) {
+fn write_pairs(
+    lesser: &[u64; LISTED],
+    greater: &[u64; LISTED],
+    blocks: &[u64; LISTED],
+    count: usize,
+) {
     if LISTED < count {
         return;
     }
@@ -85,7 +93,13 @@ fn list_pairs(line: &[u8], map: Map, points: &[u64; POINTS], pairs: &[u64; PAIRS
 }
 
 // Nothing blocks them.
-fn list_open(line: &[u8], map: Map, points: &[u64; POINTS], blockers: &[u64; POINTS], pairs: &[u64; PAIRS]) {
+fn list_open(
+    line: &[u8],
+    map: Map,
+    points: &[u64; POINTS],
+    blockers: &[u64; POINTS],
+    pairs: &[u64; PAIRS],
+) {
     let mut lesser = [0u64; LISTED];
     let mut greater = [0u64; LISTED];
     let r = open_pairs(map, points, blockers, pairs, &mut lesser, &mut greater);

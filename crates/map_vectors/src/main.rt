@@ -21,8 +21,10 @@ use query::find;
 use query::look;
 use query::see;
 use query::step;
+use sizes::CELLS;
+use sizes::PAIRS;
+use sizes::POINTS;
 use tables::tell_tables;
-use sizes::{CELLS, PAIRS, POINTS};
 
 // A question, a list or the tables.
 fn tell(

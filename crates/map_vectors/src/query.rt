@@ -14,9 +14,11 @@ use replay::lines::answer;
 use replay::questions::answer_place;
 use replay::questions::cell_at;
 use replay::questions::question_at;
+use sizes::CELLS;
+use sizes::PAIRS;
+use sizes::POINTS;
 use views::neighbours::neighbours;
 use views::visibility_from::visibility_from;
-use sizes::{CELLS, PAIRS, POINTS};
 
 pub(crate) fn look(line: &[u8], map: Map, cells: &[u64; CELLS]) {
     let t = is_occupied(map, cells, cell_at(line));

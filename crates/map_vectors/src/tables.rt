@@ -6,7 +6,8 @@ use crate::write::write_pair;
 use crate::write::write_points;
 use held::map::Map;
 use replay::lines::answer;
-use sizes::{PAIRS, POINTS};
+use sizes::PAIRS;
+use sizes::POINTS;
 ghost use Prim.Native.Nat.{_<_, _≤_};
 
 // A pair as the lesser point's row has it, and as the greater's has it, 0 for no pair.
@@ -26,7 +27,12 @@ fn write_row(i: usize, count: usize, points: &[u64; POINTS], pairs: &[u64; PAIRS
 {
     let mut j = i;
     while j < count {
-        write_both(points[i], points[j], pairs[POINTS * i + j], pairs[POINTS * j + i]);
+        write_both(
+            points[i],
+            points[j],
+            pairs[POINTS * i + j],
+            pairs[POINTS * j + i],
+        );
         j += 1;
     }
 }

@@ -1,4 +1,4 @@
-// Keys put into a table and taken out. The used part stands first, and zeros behind it.
+// Keys put into a table and taken out. The used part comes first, and the unused rest is zero.
 use crate::place::place;
 use crate::place::stands_at;
 ghost use mathlib.Core.Path.{_≡_};

@@ -9,10 +9,8 @@ ghost use Rattle.model.specs.Maps.{AscL};
 ghost use Rattle.table.specs.Columns.{InColumn, columnOf, rowsFrom};
 ghost use Rattle.table.specs.Tables.{rank};
 
-// Keys from one column to the next; there are as many columns.
-
-// The place of a key that stands near the front: the stretch that is searched begins with one key and doubles.
-fn place_near(t: &[u64], k: u64) -> usize
+// The place of a key, looked for from the front: the stretch that is searched begins with one key and doubles.
+fn place_from(t: &[u64], k: u64) -> usize
     ensures { λ r. ⌜ (r ≤ length (now (t .entry))) × (AscL 0 (now (t .entry)) → r ≡ rank k (now (t .entry))) ⌝ }
 {
     let mut at = 0;
@@ -27,12 +25,12 @@ fn place_near(t: &[u64], k: u64) -> usize
     at + place(&t[at..], k)
 }
 
-// Where column x begins, or would begin: who goes from column to column finds it near the front.
+// Where column x begins, or would begin: a walk from column to column finds it among the first keys.
 fn begin(t: &[u64], x: u64) -> usize
     ensures { λ r. ⌜ (r ≤ length (now (t .entry))) × (AscL 0 (now (t .entry)) → r ≡ rank (x * W) (now (t .entry))) ⌝ }
 {
     if x < COLUMN {
-        return place_near(t, x * COLUMN);
+        return place_from(t, x * COLUMN);
     }
     t.len()
 }

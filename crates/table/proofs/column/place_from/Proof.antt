@@ -1,4 +1,4 @@
--- `column::place_near`: the stretch that doubles ends at or after the place that is looked for. Assumes nothing.
+-- `column::place_from`: the stretch that doubles ends at or after the place that is looked for. Assumes nothing.
 use native.Mathlib.Omega.{arith}
 use Prim.Native.Nat.{ℕ, _+_, _-_, _≤_, _<_}
 use mathlib.Core.Logic.{⊎-elim}
@@ -7,9 +7,9 @@ use lib.ListN.{length, drop, getD}
 use borrow.Author.Needs.{needs}
 use borrow.Author.Tests.{ltb-true, ltb-false}
 use Rattle.table.proofs.AllLaws.{ascL-take, ascL-drop}
-use Rattle.table.proofs.NearLaws.{Doubled, doubled-none, doubled-more, doubled-ends, doubled-out}
-use Rattle.table.proofs.column.place_near.Statement.{statement}
-use Rattle.table.proofs.column.place_near.Tie as tie
+use Rattle.table.proofs.DoublingLaws.{Doubled, doubled-none, doubled-more, doubled-ends, doubled-out}
+use Rattle.table.proofs.column.place_from.Statement.{statement}
+use Rattle.table.proofs.column.place_from.Tie as tie
 
 abbrev Inv-loop : tie.InvT-loop
 Inv-loop t k at₀ n₀ at n = Doubled k t at n
@@ -97,8 +97,8 @@ returns-2 c =
     let l = a .t .now in
     (omega arith, λ asc. ap (λ (r : ℕ). p .loop .at + r) (c .place2 .ensures .1 (ascL-take 0 (length l - p .loop .at) (drop (p .loop .at) l) (ascL-drop 0 (p .loop .at) l asc))) ∙ doubled-out (a .k) l (p .loop .at) (p .loop .n) (p .loop .inv) asc)
 
-pub place-near-spec : {M : Type 1} → statement M
-place-near-spec =
+pub place-from-spec : {M : Type 1} → statement M
+place-from-spec =
     tie.close
     (tie.spec
     Inv-loop
