@@ -9,6 +9,7 @@ use replay::lines::answer;
 use sizes::PAIRS;
 use sizes::POINTS;
 ghost use Prim.Native.Nat.{_<_, _≤_};
+ghost use Rattle.held.specs.Pairs.{maxPoints};
 
 // A pair as the lesser point's row has it, and as the greater's has it, 0 for no pair.
 fn write_both(lesser: u64, greater: u64, there: u64, back: u64) {

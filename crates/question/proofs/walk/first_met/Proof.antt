@@ -28,9 +28,9 @@ shared-slice-read-k c = omega arith
 
 returns : tie.Need-returns Inv-loop μ-loop
 returns c =
-    let p = c .before .before .before in
+    let p = c .before .before .before .before in
     let s = p .before .before .args in
-    λ x b a o. ap keyed (row-past (s .high) (round b (s .circle)) (s .rows .now) (p .loop .i) (omega arith) x a o (omega arith) (p .loop .inv b))
+    λ x b a o. c .nothing .ensures ∙ ap keyed (row-past (s .high) (round b (s .circle)) (s .rows .now) (p .loop .i) (omega arith) x a o (omega arith) (p .loop .inv b))
 
 meets-requires : tie.Need-meets-requires Inv-loop μ-loop
 meets-requires c κs = search needs
@@ -57,9 +57,9 @@ loop-again c =
 
 returns-3 : tie.Need-returns-3 Inv-loop μ-loop
 returns-3 c =
-    let p = c .before in
+    let p = c .before .before in
     let s = p .before .before .args in
-    λ x b a o. ap keyed (sym (p .loop .inv b ∙ find-past (rowTaken (s .high) (round b (s .circle))) (s .rows .now) (p .loop .i) (omega arith)))
+    λ x b a o. c .nothing2 .ensures ∙ ap keyed (sym (p .loop .inv b ∙ find-past (rowTaken (s .high) (round b (s .circle))) (s .rows .now) (p .loop .i) (omega arith)))
 
 pub first-met-spec : {M : Type 1} → statement M
 first-met-spec =
@@ -70,10 +70,12 @@ first-met-spec =
     loop-holds
     mul-k
     shared-slice-read-k
+    (λ c κs. tt)
     returns
     meets-requires
     returns-2
     add-i
     loop-less
     loop-again
+    (λ c κs. tt)
     returns-3)
