@@ -1,5 +1,5 @@
 // Replays the vectors on standard input: each line is a letter and six operands of sixteen digits, 104 bytes in all,
-// and comes back with four numbers behind it, in decimals. What the Rust answers is in the file stdout beside src/.
+// and comes back with four numbers after it, in decimals. What the Rust answers is in the file stdout beside src/.
 //
 // o  size: a new floor
 // e  x y o: one more entry of the batch, 0 for free or 1 for occupied

@@ -114,7 +114,7 @@ fn root_positive(b: u64) -> f64
     ensures { λ r. ⌜ r ≡ rootUnits (bitUnits b) ⌝ }
 {
     if b < 4503599627370496 {
-        // no leading digit is understood: as many zeros as stand above b's first digit are moved
+        // no leading digit is understood: as many zeros as are above b's first digit are moved
         // below its last
         let z = u64::leading_zeros(b) as u64;
         return root_scaled(b << (z - 11), 1033 - z);

@@ -60,7 +60,7 @@ pub fn bias(n: i64) -> u64
 }
 
 // 1.5 * 2^52: where it is added to a number below 2^51 in size, that number is rounded to a whole one,
-// which stands in the low bits of the sum.
+// which is then in the low bits of the sum.
 const SHIFTER: f64 = 6755399441055744.0;
 
 // The sum's bits at the first column, -2^31.

@@ -1,6 +1,6 @@
-// Lists the map files of the folder that it is run in, 0000, 0001 and so on to the last, each as `listing` lists its input, and through the shortest buffer that
-// will do. An empty line follows each listing. What the Rust with ordered maps gives is in the file stdout beside src/, and behind it what is told of a folder,
-// which opens and cannot be read, and of a descriptor that is open for reading only.
+// Lists the map files of the folder that it is run in, 0000, 0001 and so on to the last, each as `listing` lists its input, and through
+// the shortest buffer that will do. An empty line follows each listing. What the Rust with ordered maps gives is in the file stdout
+// beside src/, and after it what is told of a folder, which opens and cannot be read, and of a descriptor that is open for reading only.
 use intake::output::Put;
 use intake::output::show_input;
 use libc::STDOUT_FILENO;

@@ -1,4 +1,4 @@
-// The lines that alter a map. Each comes back with its answer's numbers behind it, in decimals:
+// The lines that alter a map. Each comes back with its answer's numbers after it, in decimals:
 //
 // o  size radius: a new map: refusal, cells, points
 // +  x y, -  x y: one more entry of the batch, that the cell be occupied, or free: no number

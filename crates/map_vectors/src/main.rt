@@ -1,5 +1,5 @@
 // Replays the vectors on standard input: each line is a letter and its operands of sixteen digits, and comes back with its
-// answer's numbers behind it, in decimals. What the Rust answers is in the file stdout beside src/. The lines that alter the map
+// answer's numbers after it, in decimals. What the Rust answers is in the file stdout beside src/. The lines that alter the map
 // are those of `call`; those of `tables`, `query` and `list` leave it as it is.
 mod call;
 mod line;

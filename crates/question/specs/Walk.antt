@@ -22,7 +22,7 @@ use Rattle.table.specs.Columns.{InColumn}
 use Rattle.table.specs.Tables.{All}
 use Rattle.question.specs.declared.search.Found.{Found}
 
--- ---- the model's answer, a cell's key or none; and the one struct that stands for it, whose key is 0 where nothing is found
+-- ---- the model's answer, a cell's key or none; and the one struct that says the same, whose key is 0 where nothing is found
 abbrev pub found : Found → model.Found
 found f = record { cell = cond (f .some) (some (f .key)) none }
 

@@ -68,7 +68,8 @@ impl Circle {
 
     // Of two opposite sides, from `high` to b and from a to `low`, the one that faces the circle.
     fn facing_inside(self, d: f64, high: Point, b: Point, a: Point, low: Point) -> bool
-        ensures { λ r. ⌜ r ≡ facing d (lineWithin (pt (self .p)) (self .square) (pt high) (pt b)) (lineWithin (pt (self .p)) (self .square) (pt a) (pt low)) ⌝ }
+        ensures { λ r. ⌜ r ≡ facing d (lineWithin (pt (self .p)) (self .square) (pt high) (pt b))
+            (lineWithin (pt (self .p)) (self .square) (pt a) (pt low)) ⌝ }
     {
         let p = self.p;
         let square = self.square;

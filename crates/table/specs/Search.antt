@@ -10,7 +10,7 @@ use Rattle.model.specs.Maps.{AscL}
 use Rattle.table.specs.Tables.{rank}
 use Rattle.table.specs.declared.places.Places.{Places}
 
--- k stands, or would stand, at a place
+-- k is, or would be, at a place
 pub record Placed (t : List ℕ) (k at : ℕ) : Type 0 where
   pub inside : at ≤ length t
   pub place : AscL 0 t → at ≡ rank k t

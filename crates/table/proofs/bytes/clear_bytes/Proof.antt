@@ -15,15 +15,6 @@ abbrev μ-loop : tie.MeasureT-loop
 loop-holds : tie.Need-loop-holds Inv-loop μ-loop
 loop-holds c = clearing-none (c .args .t .now)
 
-slice-write-t : tie.Need-slice-write-t Inv-loop μ-loop
-slice-write-t c = omega arith
-
-add-i : tie.Need-add-i Inv-loop μ-loop
-add-i c = omega arith
-
-loop-less : tie.Need-loop-less Inv-loop μ-loop
-loop-less c = omega arith
-
 loop-again : tie.Need-loop-again Inv-loop μ-loop
 loop-again c = let l = c .before .loop in clearing-more (c .before .before .args .t .now) (l .t) (l .i) (l .inv) (c .loop-test .taken)
 
@@ -34,4 +25,4 @@ returns : tie.Need-returns Inv-loop μ-loop
 returns c = let l = c .before .loop in clearing-done (c .before .before .args .t .now) (l .t) (l .i) (l .inv) (c .loop-test .left)
 
 pub clear-bytes-spec : {M : Type 1} → statement M
-clear-bytes-spec = tie.close (tie.spec Inv-loop μ-loop loop-holds slice-write-t add-i loop-less loop-again same-length returns)
+clear-bytes-spec = tie.close (tie.spec Inv-loop μ-loop loop-holds (λ c. omega arith) (λ c. omega arith) (λ c. omega arith) loop-again same-length returns)

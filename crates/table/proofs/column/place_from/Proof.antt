@@ -20,47 +20,11 @@ abbrev μ-loop : tie.MeasureT-loop
 loop-holds : tie.Need-loop-holds Inv-loop μ-loop
 loop-holds c = doubled-none (c .before .args .k) (c .before .args .t .now)
 
-mul-if1 : tie.Need-mul-if1 Inv-loop μ-loop
-mul-if1 c = omega arith
-
-shared-slice-read-if1 : tie.Need-shared-slice-read-if1 Inv-loop μ-loop
-shared-slice-read-if1 c = omega arith
-
-add-at : tie.Need-add-at Inv-loop μ-loop
-add-at c = omega arith
-
-mul-n : tie.Need-mul-n Inv-loop μ-loop
-mul-n c = omega arith
-
-add-n : tie.Need-add-n Inv-loop μ-loop
-add-n c = omega arith
-
-loop-less : tie.Need-loop-less Inv-loop μ-loop
-loop-less c = omega arith
-
 loop-again : tie.Need-loop-again Inv-loop μ-loop
 loop-again c =
     let p = c .before .before .before in
     let a = p .before .before .args in
     doubled-more (a .k) (a .t .now) (p .loop .at) (p .loop .n) (p .loop .inv) (c .before .before .loop-test .taken) (ltb-true (getD (a .t .now) (p .loop .n) 0) (a .k) (c .if1 .taken))
-
-mul-place : tie.Need-mul-place Inv-loop μ-loop
-mul-place c = omega arith
-
-sub-place : tie.Need-sub-place Inv-loop μ-loop
-sub-place c = omega arith
-
-part-place-start : tie.Need-part-place-start Inv-loop μ-loop
-part-place-start c = omega arith
-
-part-place-end : tie.Need-part-place-end Inv-loop μ-loop
-part-place-end c = omega arith
-
-place-requires : tie.Need-place-requires Inv-loop μ-loop
-place-requires c κs = search needs
-
-add-result : tie.Need-add-result Inv-loop μ-loop
-add-result c = omega arith
 
 returns : tie.Need-returns Inv-loop μ-loop
 returns c =
@@ -71,24 +35,6 @@ returns c =
     let h : p .loop .n < length l = c .before .before .if2 .taken in
     let stop : a .k ≤ getD l (p .loop .n) 0 = ⊎-elim (λ w. ltb-false (getD l (p .loop .n) 0) (a .k) (w .2 .left)) (λ w. absurd (omega (arith, w .left, h))) (out .loop-test .came) in
     (omega arith, λ asc. ap (λ (r : ℕ). p .loop .at + r) (c .place .ensures .1 (ascL-take 0 (p .loop .n - p .loop .at) (drop (p .loop .at) l) (ascL-drop 0 (p .loop .at) l asc))) ∙ doubled-ends (a .k) l (p .loop .at) (p .loop .n) (p .loop .inv) h stop asc)
-
-mul-place-2 : tie.Need-mul-place-2 Inv-loop μ-loop
-mul-place-2 c = omega arith
-
-sub-place-2 : tie.Need-sub-place-2 Inv-loop μ-loop
-sub-place-2 c = omega arith
-
-part-place-start-2 : tie.Need-part-place-start-2 Inv-loop μ-loop
-part-place-start-2 c = omega arith
-
-part-place-end-2 : tie.Need-part-place-end-2 Inv-loop μ-loop
-part-place-end-2 c = omega arith
-
-place-requires-2 : tie.Need-place-requires-2 Inv-loop μ-loop
-place-requires-2 c κs = search needs
-
-add-result-2 : tie.Need-add-result-2 Inv-loop μ-loop
-add-result-2 c = omega arith
 
 returns-2 : tie.Need-returns-2 Inv-loop μ-loop
 returns-2 c =
@@ -104,24 +50,24 @@ place-from-spec =
     Inv-loop
     μ-loop
     loop-holds
-    mul-if1
-    shared-slice-read-if1
-    add-at
-    mul-n
-    add-n
-    loop-less
+    (λ c. omega arith)
+    (λ c. omega arith)
+    (λ c. omega arith)
+    (λ c. omega arith)
+    (λ c. omega arith)
+    (λ c. omega arith)
     loop-again
-    mul-place
-    sub-place
-    part-place-start
-    part-place-end
-    place-requires
-    add-result
+    (λ c. omega arith)
+    (λ c. omega arith)
+    (λ c. omega arith)
+    (λ c. omega arith)
+    (λ c κs. search needs)
+    (λ c. omega arith)
     returns
-    mul-place-2
-    sub-place-2
-    part-place-start-2
-    part-place-end-2
-    place-requires-2
-    add-result-2
+    (λ c. omega arith)
+    (λ c. omega arith)
+    (λ c. omega arith)
+    (λ c. omega arith)
+    (λ c κs. search needs)
+    (λ c. omega arith)
     returns-2)
