@@ -28,7 +28,7 @@ first-far x y d n p h = rw (lt-leb x n (rw p at h)) refl
 
 -- what a prepared near test says of a cell
 abbrev pub says : NearTest → ℕ → Bool
-says t k = inSpans t k && nearBy (t .line) (t .reach) k
+says t k = inSpans t k && nearBy (t .line) (t .proximity) k
 
 pub says-near : (size radius : Float) (p q : ℕ) (a b : Point) (s : LineSegment) (g : Proximity) (t : NearTest) → pt a ≡ centre size p → pt b ≡ centre size q → s .p0 ≡ a → s .p1 ≡ b → Ready s g t → IsProximity size radius g
     → Answers (tests size radius) p q (says t)
