@@ -38,14 +38,17 @@ rows line (x ∷ a) [] c = []
 rows line (x ∷ a) (y ∷ b) [] = []
 rows line (x ∷ a) (y ∷ b) (z ∷ c) = line x y z ++ rows line a b c
 
--- key, status, blocker
-abbrev pub pointRows : List ℕ → List ℕ → List ℕ → List ℕ
-pointRows = rows (λ k s b. pointLine k s (blockOf b))
+-- of a key, a status and a blocker's code; of a lesser cell, a greater cell and a blocker's code
+abbrev pub pointRow : ℕ → ℕ → ℕ → List ℕ
+pointRow k s b = pointLine k s (blockOf b)
 
--- lesser cell, greater cell, blocker
-abbrev pub pairRows : List ℕ → List ℕ → List ℕ → List ℕ
-pairRows = rows (λ j k b. pairLine j k (blockOf b))
+abbrev pub pairRow : ℕ → ℕ → ℕ → List ℕ
+pairRow j k b = pairLine j k (blockOf b)
 
--- columns as long as the first, and room for their lines
-abbrev pub roomFor : List ℕ → List ℕ → List ℕ → ℕ → List ℕ → Bool
-roomFor a b c at t = leb (length a) (length b) && leb (length a) (length c) && leb (at + lineRoom * length a) (length t)
+-- n lines fit: the other columns have n entries too, and there is room behind the place `at` of so many bytes
+abbrev pub linesFit : ℕ → ℕ → ℕ → ℕ → ℕ → Bool
+linesFit n second third at bytes = leb n second && leb n third && leb (at + lineRoom * n) bytes
+
+-- the lines of three columns were written, if they fit
+abbrev pub PrintedRows : (ℕ → ℕ → ℕ → List ℕ) → List ℕ → List ℕ → List ℕ → ℕ → ℕ → List ℕ → List ℕ → Type 0
+PrintedRows line a b c at r t t′ = Printed (linesFit (length a) (length b) (length c) at (length t)) (lineRoom * length a) (rows line a b c) at r t t′

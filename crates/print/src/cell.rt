@@ -26,9 +26,9 @@ pub(crate) fn put_cell(out: &mut [u8], at: usize, key: u64, between: u8) -> usiz
     requires { ⌜ at + 23 ≤ length (now out) ⌝ }
     ensures { λ r. ⌜ Put (signed (xOf key) ++ (between ∷ []) ++ signed (yOf key)) at r (now (out .entry)) (now (out .exit)) × (r ≤ at + 23) ⌝ }
 {
-    let a = put_coordinate(out, at, key / 4294967296);
+    let a = put_coordinate(out, at, key / sizes::COLUMN);
     let b = put_byte(out, a, between);
-    put_coordinate(out, b, key % 4294967296)
+    put_coordinate(out, b, key % sizes::COLUMN)
 }
 
 // `x,y`, or `-` where there is none.

@@ -2,6 +2,7 @@
 mod bytes;
 mod cell;
 pub mod counts;
+mod line;
 pub mod pairs;
 pub mod points;
 pub mod refusal;

@@ -13,42 +13,6 @@ use Rattle.print.proofs.counts.put_counts.Tie as tie
 returns : tie.Need-returns
 returns c = printed-not (lt-leb _ _ (c .if1 .taken)) refl refl
 
-slice-aggregate-put-labelled : tie.Need-slice-aggregate-put-labelled
-slice-aggregate-put-labelled c = search needs
-
-put-labelled-requires : tie.Need-put-labelled-requires
-put-labelled-requires c κs = search needs
-
-slice-aggregate-put-labelled-2 : tie.Need-slice-aggregate-put-labelled-2
-slice-aggregate-put-labelled-2 c = search needs
-
-put-labelled-requires-2 : tie.Need-put-labelled-requires-2
-put-labelled-requires-2 c κs = search needs
-
-slice-aggregate-put-labelled-3 : tie.Need-slice-aggregate-put-labelled-3
-slice-aggregate-put-labelled-3 c = search needs
-
-put-labelled-requires-3 : tie.Need-put-labelled-requires-3
-put-labelled-requires-3 c κs = search needs
-
-slice-aggregate-put-labelled-4 : tie.Need-slice-aggregate-put-labelled-4
-slice-aggregate-put-labelled-4 c = search needs
-
-put-labelled-requires-4 : tie.Need-put-labelled-requires-4
-put-labelled-requires-4 c κs = search needs
-
-slice-aggregate-put-labelled-5 : tie.Need-slice-aggregate-put-labelled-5
-slice-aggregate-put-labelled-5 c = search needs
-
-put-labelled-requires-5 : tie.Need-put-labelled-requires-5
-put-labelled-requires-5 c κs = search needs
-
-slice-aggregate-put-labelled-6 : tie.Need-slice-aggregate-put-labelled-6
-slice-aggregate-put-labelled-6 c = search needs
-
-put-labelled-requires-6 : tie.Need-put-labelled-requires-6
-put-labelled-requires-6 c κs = search needs
-
 put-byte-requires : tie.Need-put-byte-requires
 put-byte-requires c κs =
     let blocks = c .before .before .before in
@@ -110,18 +74,18 @@ put-counts-spec =
     tie.close
     (tie.spec
     returns
-    slice-aggregate-put-labelled
-    put-labelled-requires
-    slice-aggregate-put-labelled-2
-    put-labelled-requires-2
-    slice-aggregate-put-labelled-3
-    put-labelled-requires-3
-    slice-aggregate-put-labelled-4
-    put-labelled-requires-4
-    slice-aggregate-put-labelled-5
-    put-labelled-requires-5
-    slice-aggregate-put-labelled-6
-    put-labelled-requires-6
+    (λ c. search needs)
+    (λ c κs. search needs)
+    (λ c. search needs)
+    (λ c κs. search needs)
+    (λ c. search needs)
+    (λ c κs. search needs)
+    (λ c. search needs)
+    (λ c κs. search needs)
+    (λ c. search needs)
+    (λ c κs. search needs)
+    (λ c. search needs)
+    (λ c κs. search needs)
     put-byte-requires
     same-length
     returns-2)
