@@ -25,6 +25,7 @@ use Rattle.held.proofs.NamedLaws.{blocks-named}
 use Rattle.held.proofs.PadLaws.{copied}
 use Rattle.held.specs.Holds.{Holds, Tables}
 use Rattle.held.specs.declared.map.Map.{Map}
+use Rattle.answers.specs.Walks.{FreeListed}
 use Rattle.answers.proofs.GrowLaws.{Growing, growing-done, growing-none, growing-pass, growing-put}
 use Rattle.model.proofs.SiftLaws.{sift-append, sift-nil, sift-one, sift-out}
 
@@ -141,12 +142,7 @@ module _ (points blockers out out′ : List ℕ) (n i : ℕ) (more : i < length 
         (λ ps h. next ps (h .0) ∙ ap (λ (w : Points). w ++ sift unblocked (drop (i + 1) ps)) (sift-out unblocked (pointAt ps i) (reads-blocked blockers ps i (h .1) z)));
   }
 
--- what `write_free` promises
-abbrev pub Freed : List ℕ → List ℕ → List ℕ → List ℕ → ℕ → Type 0
-Freed points blockers out out′ r = (ps : Points) → points ≡ keys ps → blockers ≡ codes (blocksOf ps) → AllNamed (blocksOf ps)
-    → (r ≡ length (sift unblocked ps)) × (out′ ≡ keys (sift unblocked ps) ++ drop r out)
-
-pub free-all : (points blockers out out′ : List ℕ) (n i : ℕ) → length points ≤ i → FreeTo points blockers out out′ n i → Freed points blockers out out′ n
+pub free-all : (points blockers out out′ : List ℕ) (n i : ℕ) → length points ≤ i → FreeTo points blockers out out′ n i → FreeListed points blockers n out out′
 unfolding keys
 free-all points blockers out out′ n i h s ps p b a =
     let e : length points ≡ length ps = ap length p ∙ keys-length ps in
@@ -156,7 +152,7 @@ free-all points blockers out out′ n i h s ps p b a =
     (f .0 ∙ keys-length (sift unblocked ps), f .1)
 
 module _ (m : Map) (t : Tables) (M : model.Map) (h : Holds m t M) (points blockers : List ℕ) (p : t .points ≡ points) (b : t .blockers ≡ blockers) where
-  pub free-written : (out out′ : List ℕ) (r : ℕ) → Freed (take (m .points) points) (take (m .points) blockers) out out′ r
+  pub free-written : (out out′ : List ℕ) (r : ℕ) → FreeListed (take (m .points) points) (take (m .points) blockers) r out out′
       → Written M r (record { was = out; is = out′; wanted = λ M. keys (freePoints M) } ∷ [])
   unfolding freePoints
   free-written out out′ r f =

@@ -5,6 +5,7 @@ use crate::judge::refuse;
 use crate::judge::refused;
 use held::map::Map;
 use limits::cell::Cell;
+use sizes::CELLS;
 use table::copy::copy;
 ghost use Rattle.answers.specs.CellLists.{CornerCells, IsOccupied, OccupiedCells};
 
@@ -19,7 +20,7 @@ pub struct Told {
 pub fn is_occupied(map: Map, cells: &[u64], cell: Cell) -> Told
     ensures { λ r. ⌜ IsOccupied map (now (cells .entry)) (cell .x) (cell .y) r ⌝ }
 {
-    let number = refuse(lacks(cells.len(), 1024, false), map, false, false);
+    let number = refuse(lacks(cells.len(), CELLS, false), map, false, false);
     if number != 0 {
         return Told {
             refusal: number,
@@ -37,11 +38,7 @@ pub fn is_occupied(map: Map, cells: &[u64], cell: Cell) -> Told
 pub fn occupied_cells(map: Map, cells: &[u64], out: &mut [u64]) -> Count
     ensures { λ r. ⌜ OccupiedCells map (now (cells .entry)) (now (out .entry)) (now (out .exit)) r ⌝ }
 {
-    let short = lacks(
-        cells.len(),
-        sizes::CELLS,
-        lacks(out.len(), sizes::CELLS, false),
-    );
+    let short = lacks(cells.len(), CELLS, lacks(out.len(), CELLS, false));
     let number = refuse(short, map, false, false);
     if number != 0 {
         return refused(number);
@@ -60,8 +57,8 @@ pub fn corner_cells(map: Map, cells: &[u64], out: &mut [u64], statuses: &mut [u8
 {
     let short = lacks(
         cells.len(),
-        1024,
-        lacks(out.len(), 1024, lacks(statuses.len(), 1024, false)),
+        CELLS,
+        lacks(out.len(), CELLS, lacks(statuses.len(), CELLS, false)),
     );
     let number = refuse(short, map, false, false);
     if number != 0 {

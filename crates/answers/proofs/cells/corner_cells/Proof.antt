@@ -38,21 +38,6 @@ due p =
 passes : (e : tie.Else1) → let a = start (e .before) .args in refuseMap (short ((length (a .cells .now), maxCells) ∷ rest (start (e .before)))) (a .map) false false ≡ 0
 passes e = sym (due (e .before)) ∙ e .if1 .left
 
-lacks-requires : tie.Need-lacks-requires
-lacks-requires c κs = tt
-
-lacks-requires-2 : tie.Need-lacks-requires-2
-lacks-requires-2 c κs = tt
-
-lacks-requires-3 : tie.Need-lacks-requires-3
-lacks-requires-3 c κs = tt
-
-refuse-requires : tie.Need-refuse-requires
-refuse-requires c κs = tt
-
-refused-requires : tie.Need-refused-requires
-refused-requires c κs = tt
-
 returns : tie.Need-returns
 returns c =
     let p = c .before .before in
@@ -64,9 +49,6 @@ slice-aggregate-corner-cells c =
     let e = c .before in
     let s = start (e .before) in
     used (s .args .map) (s .args .cells .now) (rest s) false false (passes e)
-
-corner-cells-requires : tie.Need-corner-cells-requires
-corner-cells-requires c κs = tt
 
 same-length : tie.Need-same-length
 same-length c = c .before .before .before .before .corner-cells .kept .1 .0
@@ -89,14 +71,14 @@ pub corner-cells-spec : {M : Type 1} → statement M
 corner-cells-spec =
     tie.close
     (tie.spec
-    lacks-requires
-    lacks-requires-2
-    lacks-requires-3
-    refuse-requires
-    refused-requires
+    (λ c κs. tt)
+    (λ c κs. tt)
+    (λ c κs. tt)
+    (λ c κs. tt)
+    (λ c κs. tt)
     returns
     slice-aggregate-corner-cells
-    corner-cells-requires
+    (λ c κs. tt)
     same-length
     same-length-2
     returns-2)

@@ -31,12 +31,6 @@ list-row-requires c κs =
       rw (l .inv .blocks .same) (room (length (a .blocks .now)) (p .4)),
     )
 
-add-i : tie.Need-add-i Inv-loop μ-loop
-add-i c = search needs
-
-loop-less : tie.Need-loop-less Inv-loop μ-loop
-loop-less c = search needs
-
 loop-again : tie.Need-loop-again Inv-loop μ-loop
 loop-again c =
     let r = c .before .before .before .before .before .before in
@@ -69,8 +63,8 @@ list-all-spec =
     μ-loop
     loop-holds
     list-row-requires
-    add-i
-    loop-less
+    (λ c. search needs)
+    (λ c. search needs)
     loop-again
     same-length
     same-length-2

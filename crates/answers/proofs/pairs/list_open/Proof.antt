@@ -16,12 +16,6 @@ abbrev μ-loop : tie.MeasureT-loop
 loop-holds : tie.Need-loop-holds Inv-loop μ-loop
 loop-holds c = let s = c .before .before .before .before .before in let a = s .args in open-start (a .points .now) (a .blockers .now) (a .pairs .now) (a .lesser .now) (a .greater .now) (s .pre .0)
 
-mul-if1 : tie.Need-mul-if1 Inv-loop μ-loop
-mul-if1 c = search needs
-
-shared-slice-read-if1 : tie.Need-shared-slice-read-if1 Inv-loop μ-loop
-shared-slice-read-if1 c = search needs
-
 open-row-requires : tie.Need-open-row-requires Inv-loop μ-loop
 open-row-requires c κs =
     let w = c .before .before in
@@ -39,12 +33,6 @@ open-row-requires c κs =
       rw (l .inv .ends .lesser .same) (room (length (a .lesser .now)) (p .3)),
       rw (l .inv .ends .greater .same) (room (length (a .greater .now)) (p .4)),
     )
-
-add-i : tie.Need-add-i Inv-loop μ-loop
-add-i c = search needs
-
-loop-less : tie.Need-loop-less Inv-loop μ-loop
-loop-less c = search needs
 
 loop-again : tie.Need-loop-again Inv-loop μ-loop
 loop-again c =
@@ -78,11 +66,11 @@ list-open-spec =
     Inv-loop
     μ-loop
     loop-holds
-    mul-if1
-    shared-slice-read-if1
+    (λ c. search needs)
+    (λ c. search needs)
     open-row-requires
-    add-i
-    loop-less
+    (λ c. search needs)
+    (λ c. search needs)
     loop-again
     same-length
     same-length-2

@@ -47,30 +47,6 @@ second p = p .before .before .before .before .before
 abbrev third : tie.After-slice-known5 → tie.After-slice-known4
 third p = p .before .before .before .before .before
 
-lacks-requires : tie.Need-lacks-requires
-lacks-requires c κs = tt
-
-lacks-requires-2 : tie.Need-lacks-requires-2
-lacks-requires-2 c κs = tt
-
-lacks-requires-3 : tie.Need-lacks-requires-3
-lacks-requires-3 c κs = tt
-
-lacks-requires-4 : tie.Need-lacks-requires-4
-lacks-requires-4 c κs = tt
-
-lacks-requires-5 : tie.Need-lacks-requires-5
-lacks-requires-5 c κs = tt
-
-lacks-requires-6 : tie.Need-lacks-requires-6
-lacks-requires-6 c κs = tt
-
-refuse-requires : tie.Need-refuse-requires
-refuse-requires c κs = tt
-
-refused-requires : tie.Need-refused-requires
-refused-requires c κs = tt
-
 returns : tie.Need-returns
 returns c =
     let p = c .before .before in
@@ -82,26 +58,17 @@ slice-aggregate-copy c =
     let a = start (p .before) .args in
     sym (used (a .map .points) (a .points .now) (accept p .2) (accept p .0 .0))
 
-copy-requires : tie.Need-copy-requires
-copy-requires c κs = tt
-
 slice-aggregate-copy-bytes : tie.Need-slice-aggregate-copy-bytes
 slice-aggregate-copy-bytes c =
     let p = second (c .before) in
     let a = start (p .before) .args in
     sym (used (a .map .points) (a .statuses .now) (accept p .2) (accept p .0 .1 .0))
 
-copy-bytes-requires : tie.Need-copy-bytes-requires
-copy-bytes-requires c κs = tt
-
 slice-aggregate-copy-2 : tie.Need-slice-aggregate-copy-2
 slice-aggregate-copy-2 c =
     let p = second (third (c .before)) in
     let a = start (p .before) .args in
     sym (used (a .map .points) (a .blockers .now) (accept p .2) (accept p .0 .1 .1 .0))
-
-copy-requires-2 : tie.Need-copy-requires-2
-copy-requires-2 c κs = tt
 
 same-length : tie.Need-same-length
 same-length c = third (c .before .before .before .before .before) .before .before .copy .kept .1 .0
@@ -127,21 +94,21 @@ pub all-points-spec : {M : Type 1} → statement M
 all-points-spec =
     tie.close
     (tie.spec
-    lacks-requires
-    lacks-requires-2
-    lacks-requires-3
-    lacks-requires-4
-    lacks-requires-5
-    lacks-requires-6
-    refuse-requires
-    refused-requires
+    (λ c κs. tt)
+    (λ c κs. tt)
+    (λ c κs. tt)
+    (λ c κs. tt)
+    (λ c κs. tt)
+    (λ c κs. tt)
+    (λ c κs. tt)
+    (λ c κs. tt)
     returns
     slice-aggregate-copy
-    copy-requires
+    (λ c κs. tt)
     slice-aggregate-copy-bytes
-    copy-bytes-requires
+    (λ c κs. tt)
     slice-aggregate-copy-2
-    copy-requires-2
+    (λ c κs. tt)
     same-length
     same-length-2
     same-length-3
