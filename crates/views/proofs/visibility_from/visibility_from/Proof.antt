@@ -10,6 +10,7 @@ use Rattle.answers.proofs.PassedLaws.{refused-as, lacks-short, none-short}
 use Rattle.model.specs.Limits.{maxCells, maxPoints, needOthers}
 use Rattle.held.specs.Pairs.{pairPlaces}
 use Rattle.table.specs.Tables.{stands}
+use Rattle.answers.specs.Temp.{tablesOf}
 use Rattle.held.specs.Holds.{Tables}
 use Rattle.views.specs.Seen.{sightLengths as lengths, refusal}
 use Rattle.views.proofs.VisibilityLaws.{Going, blockers-used, cells-used, paired-fits, paired-listed, points-used, row-inside, seen-fits, seen-listed, statuses-used}
@@ -31,7 +32,7 @@ entry p = p .before .before .before .before .before
 
 -- the tables as they are lent
 abbrev lent : tie.Start → Tables
-lent s = let a = s .args in record { cells = a .cells .now; points = a .points .now; statuses = a .statuses .now; blockers = a .blockers .now; pairs = a .pairs .now }
+lent s = let a = s .args in tablesOf (a .cells .now) (a .points .now) (a .statuses .now) (a .blockers .now) (a .pairs .now)
 
 number : (p : tie.After-refuse) → let s = start p in let a = s .args in p .refuse .result ≡ refusal (a .map) (lengths (lent s) (a .out .now)) (a .cell .x) (a .cell .y)
 number p =
@@ -58,33 +59,6 @@ stood : (p : tie.After-stands-at) (b : Bool) → p .stands-at .result ≡ b
     → let a = start (entry p .before) .args in stands (keyed p .key .result) (placed p .place .result) (take (a .map .points) (a .points .now)) ≡ b
 stood p b h = sym (p .stands-at .ensures) ∙ h
 
-lacks-requires : tie.Need-lacks-requires
-lacks-requires c κs = tt
-
-lacks-requires-2 : tie.Need-lacks-requires-2
-lacks-requires-2 c κs = tt
-
-lacks-requires-3 : tie.Need-lacks-requires-3
-lacks-requires-3 c κs = tt
-
-lacks-requires-4 : tie.Need-lacks-requires-4
-lacks-requires-4 c κs = tt
-
-lacks-requires-5 : tie.Need-lacks-requires-5
-lacks-requires-5 c κs = tt
-
-lacks-requires-6 : tie.Need-lacks-requires-6
-lacks-requires-6 c κs = tt
-
-off-edge-requires : tie.Need-off-edge-requires
-off-edge-requires c κs = tt
-
-refuse-requires : tie.Need-refuse-requires
-refuse-requires c κs = tt
-
-refused-requires : tie.Need-refused-requires
-refused-requires c κs = tt
-
 returns : tie.Need-returns
 returns c =
     let p = c .before .before in
@@ -92,20 +66,11 @@ returns c =
     let a = s .args in
     listing-refused (refusal (a .map) (lengths (lent s) (a .out .now)) (a .cell .x) (a .cell .y)) (p .refuse .result) _ _ (c .refused .result) (number p) (c .before .if1 .taken) (c .refused .ensures) (refl, tt)
 
-key-requires : tie.Need-key-requires
-key-requires c κs = tt
-
 slice-aggregate-place : tie.Need-slice-aggregate-place
 slice-aggregate-place c = sym (points-used (going (c .before .before)))
 
-place-requires : tie.Need-place-requires
-place-requires c κs = tt
-
 slice-aggregate-stands-at : tie.Need-slice-aggregate-stands-at
 slice-aggregate-stands-at c = sym (points-used (going (c .before .before .before .before)))
-
-stands-at-requires : tie.Need-stands-at-requires
-stands-at-requires c κs = tt
 
 slice-aggregate-write-paired : tie.Need-slice-aggregate-write-paired
 slice-aggregate-write-paired c = sym (points-used (going (entry (c .before .before))))
@@ -125,12 +90,6 @@ add-write-paired c = let i = inside (c .before) in omega (arith, i .0, i .1)
 
 mul-write-paired-3 : tie.Need-mul-write-paired-3
 mul-write-paired-3 c = omega (arith, inside (c .before) .0)
-
-sub-write-paired : tie.Need-sub-write-paired
-sub-write-paired c = omega arith
-
-part-write-paired-start : tie.Need-part-write-paired-start
-part-write-paired-start c = omega arith
 
 part-write-paired-end : tie.Need-part-write-paired-end
 part-write-paired-end c = inside (c .before) .2
@@ -180,28 +139,28 @@ pub visibility-from-spec : {M : Type 1} → statement M
 visibility-from-spec =
     tie.close
     (tie.spec
-    lacks-requires
-    lacks-requires-2
-    lacks-requires-3
-    lacks-requires-4
-    lacks-requires-5
-    lacks-requires-6
-    off-edge-requires
-    refuse-requires
-    refused-requires
+    (λ c κs. tt)
+    (λ c κs. tt)
+    (λ c κs. tt)
+    (λ c κs. tt)
+    (λ c κs. tt)
+    (λ c κs. tt)
+    (λ c κs. tt)
+    (λ c κs. tt)
+    (λ c κs. tt)
     returns
-    key-requires
+    (λ c κs. tt)
     slice-aggregate-place
-    place-requires
+    (λ c κs. tt)
     slice-aggregate-stands-at
-    stands-at-requires
+    (λ c κs. tt)
     slice-aggregate-write-paired
     mul-write-paired
     mul-write-paired-2
     add-write-paired
     mul-write-paired-3
-    sub-write-paired
-    part-write-paired-start
+    (λ c. omega arith)
+    (λ c. omega arith)
     part-write-paired-end
     write-paired-requires
     slice-aggregate-write-seen

@@ -49,9 +49,6 @@ mul-is-seen-2 c = omega (arith, low (c .before .before) .0)
 shared-slice-read-is-seen-3 : tie.Need-shared-slice-read-is-seen-3 Inv-loop μ-loop
 shared-slice-read-is-seen-3 c = let t = c .before .before .before in omega (arith, start t .pre .1, t .loop-test .taken)
 
-is-seen-requires : tie.Need-is-seen-requires Inv-loop μ-loop
-is-seen-requires c κs = tt
-
 mul-out : tie.Need-mul-out Inv-loop μ-loop
 mul-out c = omega (arith, low (turn (c .before)) .0)
 
@@ -108,7 +105,7 @@ write-seen-spec =
     shared-slice-read-is-seen-2
     mul-is-seen-2
     shared-slice-read-is-seen-3
-    is-seen-requires
+    (λ c κs. tt)
     mul-out
     shared-slice-read-out
     mul-out-2
