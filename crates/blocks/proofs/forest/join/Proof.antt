@@ -7,12 +7,6 @@ use Rattle.blocks.proofs.ForestLaws.{joined-moved, joined-same, root-le
 use Rattle.blocks.proofs.forest.join.Statement.{statement}
 use Rattle.blocks.proofs.forest.join.Tie as tie
 
-root-of-requires : tie.Need-root-of-requires
-root-of-requires c κs = search needs
-
-same-length : tie.Need-same-length
-same-length c = search needs
-
 returns : tie.Need-returns
 returns c =
     let p = c .before .before .before in
@@ -32,9 +26,6 @@ mul-parents c = omega (arith, inside c)
 slice-write-parents : tie.Need-slice-write-parents
 slice-write-parents c = inside c
 
-same-length-2 : tie.Need-same-length-2
-same-length-2 c = search needs
-
 returns-2 : tie.Need-returns-2
 returns-2 c =
     let p = c .before .before .before in
@@ -45,10 +36,10 @@ pub join-spec : {M : Type 1} → statement M
 join-spec =
     tie.close
     (tie.spec
-    root-of-requires
-    same-length
+    (λ c κs. search needs)
+    (λ c. search needs)
     returns
     mul-parents
     slice-write-parents
-    same-length-2
+    (λ c. search needs)
     returns-2)
