@@ -3,6 +3,7 @@ pub mod AskLaws
 pub mod CellLaws
 pub mod Determinate
 pub mod EdgeLaws
+pub mod FillLaws
 pub mod FoundLaws
 pub mod GrowLaws
 pub mod ListingLaws

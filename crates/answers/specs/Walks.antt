@@ -1,18 +1,23 @@
--- Between functions: what the walks over points and pairs are lent, and what they list: the model's `pairs`, a row for each point (document 01, all pairs and open pairs; occupancy/mod.rs, `iter_points`, `iter_edges`). Definitions only.
+-- Between functions: what a map's five tables need; what the walks over points and pairs are lent, and what they list: the model's `pairs`, a row for each point (document 01, all pairs and open pairs; occupancy/mod.rs, `iter_points`, `iter_edges`). Definitions only.
 use Prim.Native.Nat.{ℕ, _+_, _-_, _≤_}
 use mathlib.Core.Path.{_≡_}
-use mathlib.Core.List.{List, _++_}
+use mathlib.Core.List.{List, _∷_, _++_}
 use lib.ListN.{drop, getD, length}
 use Rattle.answers.specs.Asking.{Front}
 use Rattle.answers.specs.Columns.{greaters, lessers, pairBlocks}
 use Rattle.model.specs.Answers.{free, isOpen}
 use Rattle.model.specs.Layer.{Layer, Pair, Points, pairs, pairsFrom}
-use Rattle.model.specs.Limits.{maxPoints}
+use Rattle.model.specs.Limits.{maxCells, maxPoints}
 use Rattle.model.specs.Maps.{Asc, keys, sift}
 use Rattle.held.specs.Codes.{AllNamed, codes}
-use Rattle.held.specs.Pairs.{Pairs, PairsNamed}
+use Rattle.held.specs.Pairs.{Pairs, PairsNamed, pairPlaces}
 use Rattle.held.specs.Layers.{blocksOf, edgeAt}
 
+-- ---- the lengths of a map's five tables with their needs, and those of the rest
+abbrev pub tableNeeds : ℕ → ℕ → ℕ → ℕ → ℕ → List (ℕ × ℕ) → List (ℕ × ℕ)
+tableNeeds cells points statuses blockers pairs l = (cells, maxCells) ∷ (points, maxPoints) ∷ (statuses, maxPoints) ∷ (blockers, maxPoints) ∷ (pairs, pairPlaces) ∷ l
+
+-- ---- lists of pairs
 -- u is listed after whatever n pairs v are at the front of t, and there are r then; col names the column
 abbrev pub Grows : (List Pair → List ℕ) → List Pair → ℕ → ℕ → List ℕ → List ℕ → Type 0
 Grows col u n r t t′ = (v : List Pair) (o : List ℕ) → Front (col v) n o t → Front (col (v ++ u)) r o t′
@@ -69,4 +74,4 @@ OpenListed points blockers table r a a′ b b′ =
 -- ---- the points that nothing blocks, of the points whose keys and blockers are lent
 abbrev pub FreeListed : List ℕ → List ℕ → ℕ → List ℕ → List ℕ → Type 0
 FreeListed points blockers r out out′ = (ps : Points) → points ≡ keys ps → blockers ≡ codes (blocksOf ps) → AllNamed (blocksOf ps)
-    → (r ≡ length (sift (λ p. free (p .1 .block)) ps)) × (out′ ≡ keys (sift (λ p. free (p .1 .block)) ps) ++ drop r out)
+    → Front (keys (sift (λ p. free (p .1 .block)) ps)) r out out′

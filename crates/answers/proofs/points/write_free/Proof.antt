@@ -14,17 +14,16 @@ abbrev μ-loop : tie.MeasureT-loop
 μ-loop points blockers out₀ n₀ i₀ out n i = length points - i
 
 loop-holds : tie.Need-loop-holds Inv-loop μ-loop
-loop-holds c = let a = c .args in free-none (a .points .now) (a .blockers .now) (a .out .now)
+loop-holds c = let a = c .args in free-none (a .points .now) (a .blockers .now) (a .out .now) (c .pre .1)
 
 loop-again : tie.Need-loop-again Inv-loop μ-loop
 loop-again c =
     let t = c .before .before in
     let l = t .before .loop in
-    let s = t .before .before in
-    let a = s .args in
+    let a = t .before .before .args in
     ⊎-elim
-    (λ w. rw (w .2, w .3) (free-put (a .points .now) (a .blockers .now) (a .out .now) (l .out) (l .n) (l .i) (t .loop-test .taken) (l .inv) (s .pre .1) (w .0 .taken)))
-    (λ w. rw (w .1, w .2) (free-pass (a .points .now) (a .blockers .now) (a .out .now) (l .out) (l .n) (l .i) (t .loop-test .taken) (l .inv) (w .0 .left)))
+    (λ w. rw (w .2, w .3) (free-put (a .points .now) (a .blockers .now) (a .out .now) (l .out) (l .n) (l .i) (l .inv) (t .loop-test .taken) (w .0 .taken)))
+    (λ w. rw (w .1, w .2) (free-pass (a .points .now) (a .blockers .now) (a .out .now) (l .out) (l .n) (l .i) (l .inv) (t .loop-test .taken) (w .0 .left)))
     (c .if1 .came)
 
 same-length : tie.Need-same-length Inv-loop μ-loop
@@ -34,7 +33,7 @@ returns : tie.Need-returns Inv-loop μ-loop
 returns c =
     let l = c .before .loop in
     let a = c .before .before .args in
-    free-all (a .points .now) (a .blockers .now) (a .out .now) (l .out) (l .n) (l .i) (c .loop-test .left) (l .inv)
+    free-all (a .points .now) (a .blockers .now) (a .out .now) (l .out) (l .n) (l .i) (l .inv) (c .loop-test .left)
 
 pub write-free-spec : {M : Type 1} → statement M
 write-free-spec =
