@@ -24,7 +24,7 @@ use Rattle.held.specs.Codes.{blockCode}
 use Rattle.looks.proofs.NamedLaws.{sweep-named}
 use Rattle.table.specs.Tables.{All}
 use Rattle.views.specs.Kept.{Surrounded, steps}
-use Rattle.views.proofs.FillLaws.{Filling, filling-done, filling-none, filling-pass, filling-put}
+use Rattle.answers.proofs.FillLaws.{Filling, filling-done, filling-none, filling-pass, filling-put}
 use Rattle.views.proofs.FreeLaws.{found-none, found-some}
 
 -- ---- room around a cell

@@ -1,6 +1,7 @@
 // The points in sight of a cell (`calculate_visibility`).
 use answers::judge::Count;
 use answers::judge::lacks;
+use answers::judge::lacks_tables;
 use answers::judge::off_edge;
 use answers::judge::refuse;
 use answers::judge::refused;
@@ -8,8 +9,6 @@ use held::map::Map;
 use limits::cell::Cell;
 use looks::quadrant::sees;
 use looks::tests::sweep_between;
-use sizes::CELLS;
-use sizes::PAIRS;
 use sizes::POINTS;
 use table::place::place;
 use table::place::stands_at;
@@ -106,16 +105,14 @@ pub fn visibility_from(
     ensures { λ r. ⌜ InSight map (tablesOf (now (cells .entry)) (now (points .entry)) (now (statuses .entry)) (now (blockers .entry)) (now (pairs .entry)))
         (now (out .entry)) (cell .x) (cell .y) (now (out .exit)) r ⌝ }
 {
-    let lists = lacks(
+    let short = lacks_tables(
+        cells.len(),
+        points.len(),
         statuses.len(),
-        POINTS,
-        lacks(
-            blockers.len(),
-            POINTS,
-            lacks(pairs.len(), PAIRS, lacks(out.len(), POINTS, false)),
-        ),
+        blockers.len(),
+        pairs.len(),
+        lacks(out.len(), POINTS, false),
     );
-    let short = lacks(cells.len(), CELLS, lacks(points.len(), POINTS, lists));
     let number = refuse(short, map, off_edge(cell), false);
     if number != 0 {
         return refused(number);

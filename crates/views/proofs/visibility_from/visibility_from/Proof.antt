@@ -7,8 +7,7 @@ use mathlib.Core.Bool.{Bool, true, false}
 use lib.ListN.{length, take}
 use Rattle.answers.proofs.ListingLaws.{listing-refused}
 use Rattle.answers.proofs.PassedLaws.{refused-as, lacks-short, none-short}
-use Rattle.model.specs.Limits.{maxCells, maxPoints, needOthers}
-use Rattle.held.specs.Pairs.{pairPlaces}
+use Rattle.model.specs.Limits.{needOthers}
 use Rattle.table.specs.Tables.{stands}
 use Rattle.answers.specs.Temp.{tablesOf}
 use Rattle.held.specs.Holds.{Tables}
@@ -19,7 +18,7 @@ use Rattle.views.proofs.visibility_from.visibility_from.Tie as tie
 
 -- the places: the start; where nothing is refused; the key; its place among the points
 abbrev start : tie.After-refuse → tie.Start
-start p = p .before .before .before .before .before .before .before .before .before .before .before .before .before .before
+start p = p .before .before .before .before .before .before .before .before .before .before
 
 abbrev placed : tie.After-stands-at → tie.After-place
 placed p = p .before .before
@@ -37,19 +36,10 @@ lent s = let a = s .args in tablesOf (a .cells .now) (a .points .now) (a .status
 number : (p : tie.After-refuse) → let s = start p in let a = s .args in p .refuse .result ≡ refusal (a .map) (lengths (lent s) (a .out .now)) (a .cell .x) (a .cell .y)
 number p =
     let a = start p .args in
-    let cells = p .before .before in
-    let points = cells .before in
-    let statuses = points .before in
-    let blockers = statuses .before in
-    let pairs = blockers .before in
-    let out = pairs .before in
-    let rest = lacks-short (length (a .pairs .now)) pairPlaces ((length (a .out .now), needOthers) ∷ []) (out .lacks .result) (pairs .lacks2 .result) (pairs .lacks2 .ensures)
-    (lacks-short (length (a .out .now)) needOthers [] false (out .lacks .result) (out .lacks .ensures) none-short) in
-    refused-as (p .refuse .result) (cells .lacks6 .result) _ (a .map) (p .before .off-edge .result) _ false (p .refuse .ensures)
-    (lacks-short (length (a .cells .now)) maxCells _ (points .lacks5 .result) (cells .lacks6 .result) (cells .lacks6 .ensures)
-    (lacks-short (length (a .points .now)) maxPoints _ (statuses .lacks4 .result) (points .lacks5 .result) (points .lacks5 .ensures)
-    (lacks-short (length (a .statuses .now)) maxPoints _ (blockers .lacks3 .result) (statuses .lacks4 .result) (statuses .lacks4 .ensures)
-    (lacks-short (length (a .blockers .now)) maxPoints _ (pairs .lacks2 .result) (blockers .lacks3 .result) (blockers .lacks3 .ensures) rest))))
+    let tables = p .before .before in
+    let out = tables .before .lacks in
+    refused-as (p .refuse .result) (tables .lacks-tables .result) _ (a .map) (p .before .off-edge .result) _ false (p .refuse .ensures)
+    (tables .lacks-tables .ensures ((length (a .out .now), needOthers) ∷ []) (lacks-short (length (a .out .now)) needOthers [] false (out .result) (out .ensures) none-short))
     (p .before .off-edge .ensures)
 
 going : (e : tie.Else1) → let s = start (e .before) in let a = s .args in Going (a .map) (lent s) (a .out .now) (a .cell .x) (a .cell .y)
@@ -139,10 +129,6 @@ pub visibility-from-spec : {M : Type 1} → statement M
 visibility-from-spec =
     tie.close
     (tie.spec
-    (λ c κs. tt)
-    (λ c κs. tt)
-    (λ c κs. tt)
-    (λ c κs. tt)
     (λ c κs. tt)
     (λ c κs. tt)
     (λ c κs. tt)
