@@ -37,7 +37,7 @@ pub fn begin() -> Reader
 }
 
 // On to the next field. There are fewer fields than 2^64 in any file.
-pub fn onward(reader: Reader, expected: Expected, size: f64, map: Map) -> Reader
+pub(crate) fn onward(reader: Reader, expected: Expected, size: f64, map: Map) -> Reader
     ensures { λ r. ⌜ r ≡ movedOn reader expected size map ⌝ }
 {
     Reader {

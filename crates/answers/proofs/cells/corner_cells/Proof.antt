@@ -50,12 +50,6 @@ slice-aggregate-corner-cells c =
     let s = start (e .before) in
     used (s .args .map) (s .args .cells .now) (rest s) false false (passes e)
 
-same-length : tie.Need-same-length
-same-length c = c .before .before .before .before .corner-cells .kept .1 .0
-
-same-length-2 : tie.Need-same-length-2
-same-length-2 c = c .before .before .before .before .corner-cells .kept .1 .1 .0
-
 returns-2 : tie.Need-returns-2
 returns-2 c =
     let d = c .before .before .before .before in
@@ -79,6 +73,6 @@ corner-cells-spec =
     returns
     slice-aggregate-corner-cells
     (λ c κs. tt)
-    same-length
-    same-length-2
+    (λ c. c .before .before .before .before .corner-cells .kept .1 .0)
+    (λ c. c .before .before .before .before .corner-cells .kept .1 .1 .0)
     returns-2)

@@ -44,9 +44,6 @@ slice-aggregate-copy c =
     let s = start (e .before) in
     used (s .args .map) (s .args .cells .now) (rest s) false false (passes e)
 
-same-length : tie.Need-same-length
-same-length c = c .before .before .copy .kept .1 .0
-
 returns-2 : tie.Need-returns-2
 returns-2 c =
     let d = c .before .before in
@@ -68,5 +65,5 @@ occupied-cells-spec =
     returns
     slice-aggregate-copy
     (λ c κs. tt)
-    same-length
+    (λ c. c .before .before .copy .kept .1 .0)
     returns-2)

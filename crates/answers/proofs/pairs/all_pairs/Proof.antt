@@ -59,15 +59,6 @@ list-all-requires c κs =
     let x = used (a .map .points) (a .points .now) (accept p .2) (r .0) in
     (omega (arith, x, accept p .2), r .1 .0, r .1 .1 .0, r .1 .1 .1 .0, r .1 .1 .1 .1 .0)
 
-same-length : tie.Need-same-length
-same-length c = c .before .before .before .before .before .before .list-all .kept .1 .1 .0
-
-same-length-2 : tie.Need-same-length-2
-same-length-2 c = c .before .before .before .before .before .before .list-all .kept .1 .1 .1 .0
-
-same-length-3 : tie.Need-same-length-3
-same-length-3 c = c .before .before .before .before .before .before .list-all .kept .1 .1 .1 .1 .0
-
 returns-2 : tie.Need-returns-2
 returns-2 c =
     let w = c .before .before .before .before .before .before in
@@ -90,7 +81,7 @@ all-pairs-spec =
     returns
     slice-aggregate-list-all
     list-all-requires
-    same-length
-    same-length-2
-    same-length-3
+    (λ c. c .before .before .before .before .before .before .list-all .kept .1 .1 .0)
+    (λ c. c .before .before .before .before .before .before .list-all .kept .1 .1 .1 .0)
+    (λ c. c .before .before .before .before .before .before .list-all .kept .1 .1 .1 .1 .0)
     returns-2)

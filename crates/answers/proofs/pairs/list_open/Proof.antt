@@ -47,12 +47,6 @@ loop-again c =
     (λ w. rw (w .1, w .2, w .3) (open-skip (a .points .now) (a .blockers .now) (a .pairs .now) (a .lesser .now) (a .greater .now) (l .lesser) (l .greater) (l .n) (l .i) (l .inv) (t .loop-test .taken) (w .0 .left)))
     (c .if1 .came)
 
-same-length : tie.Need-same-length Inv-loop μ-loop
-same-length c = c .before .loop .inv .ends .lesser .same
-
-same-length-2 : tie.Need-same-length-2 Inv-loop μ-loop
-same-length-2 c = c .before .loop .inv .ends .greater .same
-
 returns : tie.Need-returns Inv-loop μ-loop
 returns c =
     let l = c .before .loop in
@@ -72,6 +66,6 @@ list-open-spec =
     (λ c. search needs)
     (λ c. search needs)
     loop-again
-    same-length
-    same-length-2
+    (λ c. c .before .loop .inv .ends .lesser .same)
+    (λ c. c .before .loop .inv .ends .greater .same)
     returns)

@@ -48,15 +48,6 @@ loop-again c =
     (λ w. rw (w .1, w .2, w .3, w .4) (row-pass (a .points .now) (a .pairs .now) (a .i) (a .count) (s .pre .0) (a .lesser .now) (a .greater .now) (a .blocks .now) (l .lesser) (l .greater) (l .blocks) (l .n) (l .j) (l .inv) (t .loop-test .taken) (w .0 .left)))
     (c .if1 .came)
 
-same-length : tie.Need-same-length Inv-loop μ-loop
-same-length c = c .before .loop .inv .ends .lesser .same
-
-same-length-2 : tie.Need-same-length-2 Inv-loop μ-loop
-same-length-2 c = c .before .loop .inv .ends .greater .same
-
-same-length-3 : tie.Need-same-length-3 Inv-loop μ-loop
-same-length-3 c = c .before .loop .inv .blocks .same
-
 returns : tie.Need-returns Inv-loop μ-loop
 returns c =
     let l = c .before .loop in
@@ -90,7 +81,7 @@ list-row-spec =
     (λ c. search needs)
     (λ c. search needs)
     loop-again
-    same-length
-    same-length-2
-    same-length-3
+    (λ c. c .before .loop .inv .ends .lesser .same)
+    (λ c. c .before .loop .inv .ends .greater .same)
+    (λ c. c .before .loop .inv .blocks .same)
     returns)

@@ -66,12 +66,6 @@ list-open-requires c κs =
     let y = used (a .map .points) (a .blockers .now) (accept p .2) (r .1 .0) in
     (omega (arith, x, accept p .2), omega (arith, x, y), r .1 .1 .0, r .1 .1 .1 .0, r .1 .1 .1 .1 .0)
 
-same-length : tie.Need-same-length
-same-length c = c .before .before .before .before .list-open .kept .1 .1 .1 .0
-
-same-length-2 : tie.Need-same-length-2
-same-length-2 c = c .before .before .before .before .list-open .kept .1 .1 .1 .1 .0
-
 returns-2 : tie.Need-returns-2
 returns-2 c =
     let w = c .before .before .before .before in
@@ -95,6 +89,6 @@ open-pairs-spec =
     slice-aggregate-list-open
     slice-aggregate-list-open-2
     list-open-requires
-    same-length
-    same-length-2
+    (λ c. c .before .before .before .before .list-open .kept .1 .1 .1 .0)
+    (λ c. c .before .before .before .before .list-open .kept .1 .1 .1 .1 .0)
     returns-2)

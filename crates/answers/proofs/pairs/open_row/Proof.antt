@@ -47,12 +47,6 @@ loop-again c =
     (w .0 .came)))
     (c .if1 .came)
 
-same-length : tie.Need-same-length Inv-loop μ-loop
-same-length c = c .before .loop .inv .ends .lesser .same
-
-same-length-2 : tie.Need-same-length-2 Inv-loop μ-loop
-same-length-2 c = c .before .loop .inv .ends .greater .same
-
 returns : tie.Need-returns Inv-loop μ-loop
 returns c =
     let l = c .before .loop in
@@ -86,6 +80,6 @@ open-row-spec =
     (λ c. search needs)
     (λ c. search needs)
     loop-again
-    same-length
-    same-length-2
+    (λ c. c .before .loop .inv .ends .lesser .same)
+    (λ c. c .before .loop .inv .ends .greater .same)
     returns)

@@ -70,15 +70,6 @@ slice-aggregate-copy-2 c =
     let a = start (p .before) .args in
     sym (used (a .map .points) (a .blockers .now) (accept p .2) (accept p .0 .1 .1 .0))
 
-same-length : tie.Need-same-length
-same-length c = third (c .before .before .before .before .before) .before .before .copy .kept .1 .0
-
-same-length-2 : tie.Need-same-length-2
-same-length-2 c = c .before .before .before .before .before .before .before .copy-bytes .kept .1 .0
-
-same-length-3 : tie.Need-same-length-3
-same-length-3 c = c .before .before .copy2 .kept .1 .0
-
 returns-2 : tie.Need-returns-2
 returns-2 c =
     let w = c .before .before in
@@ -109,7 +100,7 @@ all-points-spec =
     (λ c κs. tt)
     slice-aggregate-copy-2
     (λ c κs. tt)
-    same-length
-    same-length-2
-    same-length-3
+    (λ c. third (c .before .before .before .before .before) .before .before .copy .kept .1 .0)
+    (λ c. c .before .before .before .before .before .before .before .copy-bytes .kept .1 .0)
+    (λ c. c .before .before .copy2 .kept .1 .0)
     returns-2)

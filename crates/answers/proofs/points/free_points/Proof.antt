@@ -61,9 +61,6 @@ write-free-requires c κs =
     let y = used (a .map .points) (a .blockers .now) (accept p .2) (r .1 .0) in
     (omega (arith, x, y), omega (arith, x, accept p .2, r .1 .1 .0))
 
-same-length : tie.Need-same-length
-same-length c = c .before .before .write-free .kept .1 .1 .0
-
 returns-2 : tie.Need-returns-2
 returns-2 c =
     let w = c .before .before in
@@ -85,5 +82,5 @@ free-points-spec =
     slice-aggregate-write-free
     slice-aggregate-write-free-2
     write-free-requires
-    same-length
+    (λ c. c .before .before .write-free .kept .1 .1 .0)
     returns-2)

@@ -26,9 +26,6 @@ loop-again c =
     (λ w. rw (w .1, w .2) (free-pass (a .points .now) (a .blockers .now) (a .out .now) (l .out) (l .n) (l .i) (l .inv) (t .loop-test .taken) (w .0 .left)))
     (c .if1 .came)
 
-same-length : tie.Need-same-length Inv-loop μ-loop
-same-length c = c .before .loop .inv .grown .same
-
 returns : tie.Need-returns Inv-loop μ-loop
 returns c =
     let l = c .before .loop in
@@ -52,5 +49,5 @@ write-free-spec =
     (λ c. search needs)
     (λ c. search needs)
     loop-again
-    same-length
+    (λ c. c .before .loop .inv .grown .same)
     returns)

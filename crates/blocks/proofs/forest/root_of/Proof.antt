@@ -20,9 +20,6 @@ slice-read-up-2 c = simp length-set (omega arith)
 loop-again : tie.Need-loop-again Inv-loop μ-loop
 loop-again c = climb-more (c .before .before .before .loop .inv) (c .before .before .loop-test .taken)
 
-same-length : tie.Need-same-length Inv-loop μ-loop
-same-length c = c .before .loop .inv .same .long
-
 returns : tie.Need-returns Inv-loop μ-loop
 returns c =
     let p = c .before in
@@ -45,5 +42,5 @@ root-of-spec =
     slice-read-up-2
     (λ c. omega arith)
     loop-again
-    same-length
+    (λ c. c .before .loop .inv .same .long)
     returns)

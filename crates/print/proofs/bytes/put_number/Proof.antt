@@ -37,9 +37,6 @@ loop-again c = numbering-more (c .before .loop .inv) (c .loop-test .taken)
 slice-write-out-2 : tie.Need-slice-write-out-2 Inv-loop μ-loop
 slice-write-out-2 c = numbering-place (c .before .loop .inv)
 
-same-length : tie.Need-same-length Inv-loop μ-loop
-same-length c = let l = c .before .loop in length-set (l .out) (l .i) _ ∙ l .inv .long
-
 returns : tie.Need-returns Inv-loop μ-loop
 returns c =
     let a = c .before .before .before .before .args in
@@ -66,5 +63,5 @@ put-number-spec =
     (λ c. omega arith)
     (λ c. omega arith)
     slice-write-out-2
-    same-length
+    (λ c. let l = c .before .loop in length-set (l .out) (l .i) _ ∙ l .inv .long)
     returns)

@@ -18,9 +18,6 @@ loop-holds c = let a = c .args in copying-none (a .text .now) (a .out .now) (a .
 loop-again : tie.Need-loop-again Inv-loop μ-loop
 loop-again c = copying-more (c .before .before .loop .inv) (c .before .loop-test .taken)
 
-same-length : tie.Need-same-length Inv-loop μ-loop
-same-length c = c .before .loop .inv .long
-
 returns : tie.Need-returns Inv-loop μ-loop
 returns c = copying-done (c .before .loop .inv) (c .loop-test .left)
 
@@ -38,5 +35,5 @@ put-text-spec =
     (λ c. omega arith)
     loop-again
     (λ c. omega arith)
-    same-length
+    (λ c. c .before .loop .inv .long)
     returns)

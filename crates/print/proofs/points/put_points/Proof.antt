@@ -33,9 +33,6 @@ loop-again c =
     let s = call .before .before .before .before .before in
     writing-more pointRow (s .before .loop .inv) (s .loop-test .taken) (call .put-point .ensures .0) (call .put-point .ensures .1)
 
-same-length : tie.Need-same-length Inv-loop μ-loop
-same-length c = c .before .loop .inv .long
-
 returns-2 : tie.Need-returns-2 Inv-loop μ-loop
 returns-2 c = writing-done pointRow (c .before .loop .inv) (c .loop-test .left)
 
@@ -57,5 +54,5 @@ put-points-spec =
     (λ c. omega arith)
     (λ c. omega arith)
     loop-again
-    same-length
+    (λ c. c .before .loop .inv .long)
     returns-2)

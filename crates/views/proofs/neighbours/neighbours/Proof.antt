@@ -57,9 +57,6 @@ write-steps-requires c κs =
     let p = c .before .before .before in
     around-fits (going (entry p)) (keyed p .key .result) (keyed p .key .ensures)
 
-same-length : tie.Need-same-length
-same-length c = c .before .before .write-steps .kept .1 .1 .1 .1 .0
-
 returns-3 : tie.Need-returns-3
 returns-3 c =
     let w = c .before .before in
@@ -85,5 +82,5 @@ neighbours-spec =
     returns-2
     slice-aggregate-write-steps
     write-steps-requires
-    same-length
+    (λ c. c .before .before .write-steps .kept .1 .1 .1 .1 .0)
     returns-3)

@@ -62,9 +62,6 @@ loop-again c =
     (λ w. rw (w .1, w .2) (steps-pass (a .size) (a .radius) (a .cells .now) (a .k) (a .out .now) (l .out) (l .n) (l .i) (l .inv) (s .result) (t .loop-test .taken) (s .ensures) (w .0 .left)))
     (c .if1 .came)
 
-same-length : tie.Need-same-length Inv-loop μ-loop
-same-length c = c .before .loop .inv .grown .same
-
 returns : tie.Need-returns Inv-loop μ-loop
 returns c =
     let l = c .before .loop in
@@ -97,5 +94,5 @@ write-steps-spec =
     add-i
     loop-less
     loop-again
-    same-length
+    (λ c. c .before .loop .inv .grown .same)
     returns)

@@ -105,18 +105,12 @@ slice-aggregate-write-seen-4 c = sym (blockers-used (going (entry (c .before .be
 write-seen-requires : tie.Need-write-seen-requires
 write-seen-requires c κs = seen-fits (going (entry (c .before .before .before .before .before .before)))
 
-same-length : tie.Need-same-length
-same-length c = c .before .before .write-paired .kept .1 .1 .0
-
 returns-2 : tie.Need-returns-2
 returns-2 c =
     let w = c .before .before in
     let t = w .before .before .before .before in
     let q = t .before in
     paired-listed (going (entry q)) (keyed q .key .result) (keyed q .key .ensures) (placed q .place .result) (placed q .place .ensures .1) (w .write-paired .last .1 .1 .0) (w .write-paired .result) (stood q true (t .if2 .taken)) (w .write-paired .ensures)
-
-same-length-2 : tie.Need-same-length-2
-same-length-2 c = c .before .before .write-seen .kept .1 .1 .1 .1 .1 .1 .1 .0
 
 returns-3 : tie.Need-returns-3
 returns-3 c =
@@ -154,7 +148,7 @@ visibility-from-spec =
     slice-aggregate-write-seen-3
     slice-aggregate-write-seen-4
     write-seen-requires
-    same-length
+    (λ c. c .before .before .write-paired .kept .1 .1 .0)
     returns-2
-    same-length-2
+    (λ c. c .before .before .write-seen .kept .1 .1 .1 .1 .1 .1 .1 .0)
     returns-3)

@@ -83,9 +83,6 @@ loop-again c =
     (λ w. rw (w .1, w .2) (seeing-pass (a .size) (a .radius) (a .cells .now) (a .points .now) (a .statuses .now) (a .blockers .now) (a .k) (a .out .now) (l .out) (l .n) (l .i) (l .inv) more (s .result) (s .ensures) (w .0 .left)))
     (c .if1 .came)
 
-same-length : tie.Need-same-length Inv-loop μ-loop
-same-length c = c .before .loop .inv .grown .same
-
 returns : tie.Need-returns Inv-loop μ-loop
 returns c =
     let l = c .before .loop in
@@ -114,5 +111,5 @@ write-seen-spec =
     add-i
     loop-less
     loop-again
-    same-length
+    (λ c. c .before .loop .inv .grown .same)
     returns)
