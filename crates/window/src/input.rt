@@ -78,7 +78,7 @@ pub fn refill(fd: i32, buffer: &mut [u8], window: Window) -> Window
     if window.ended {
         return window;
     }
-    if 2307 <= end - from {
+    if sizes::WINDOW <= end - from {
         return window;
     }
     move_down(buffer, from, end);
