@@ -18,7 +18,7 @@ abbrev pub tableNeeds : ℕ → ℕ → ℕ → ℕ → ℕ → List (ℕ × ℕ
 tableNeeds cells points statuses blockers pairs l = (cells, maxCells) ∷ (points, maxPoints) ∷ (statuses, maxPoints) ∷ (blockers, maxPoints) ∷ (pairs, pairPlaces) ∷ l
 
 -- ---- lists of pairs
--- u is listed after whatever n pairs v are at the front of t, and there are r then; col names the column
+-- u is listed after any n pairs v that are at the front of t, and there are r then; col names the column
 abbrev pub Grows : (List Pair → List ℕ) → List Pair → ℕ → ℕ → List ℕ → List ℕ → Type 0
 Grows col u n r t t′ = (v : List Pair) (o : List ℕ) → Front (col v) n o t → Front (col (v ++ u)) r o t′
 

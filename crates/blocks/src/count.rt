@@ -17,7 +17,7 @@ const LAST_ROW: u64 = COLUMN - 1;
 
 const LAST_COLUMN: u64 = COLUMN * LAST_ROW;
 
-// Joins the tree of the cell `key` to that of place i, if it stands at `at`. Returns how many trees were joined.
+// Joins the tree of the cell `key` to that of place i, if it is at the place `at`. Returns how many trees were joined.
 fn join_at(cells: &[u64], at: usize, key: u64, parents: &mut [usize], i: usize) -> usize
     requires { ⌜ Down (now parents) × (getD (now parents) i 0 ≡ i) × (length (now cells) ≤ length (now parents)) ⌝ }
     ensures { λ r. ⌜ Sought (now (cells .entry)) at key i r (now (parents .entry)) (now (parents .exit)) ⌝ }

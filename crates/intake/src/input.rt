@@ -21,7 +21,7 @@ pub enum End {
     Unread,
 }
 
-// Reads all fields. A proved loop has to end, and nothing says that the input does: of 2^63 bytes or more it is told as unread.
+// Reads all fields. A proved loop has to end, and nothing says that the input does: an input of 2^63 bytes or more is told as unread.
 fn read_fields(
     fd: i32,
     buffer: &mut [u8],

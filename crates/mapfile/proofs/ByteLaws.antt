@@ -1,4 +1,4 @@
--- The model's reading of one field, from the first bytes on: by what is due of its head, what is known of its length and value where nothing is, and that bytes behind a window change nothing. Assumes nothing.
+-- The model's reading of one field, from the first bytes on: by what is due of its head, what is known of its length and value where nothing is, and that bytes after a window change nothing. Assumes nothing.
 use Prim.Native.Nat.{ℕ, suc, _+_, _*_, _/_, _%_, _≤_, _<_}
 use native.Mathlib.Nat.{not-suc-le-zero}
 use native.Mathlib.Omega.{arith}

@@ -8,7 +8,7 @@ use Rattle.answers.specs.Temp.{needWindow}
 use Rattle.model.specs.Map.{Map}
 use Rattle.model.specs.MapFile.{Reader, Reading, done, more, oneField, refused}
 
--- a reading with the bytes m behind those that are left
+-- a reading with the bytes m after those that are left
 abbrev pub extend : List ℕ → Reading → Reading
 extend m (more R b) = more R (b ++ m)
 extend m (refused n f) = refused n f
@@ -20,7 +20,7 @@ Wide w rest = (needWindow ≤ length w) ⊎ (rest ≡ [])
 
 -- the readings to which windows lead: from the reader R, the window w, and the bytes that were not read
 pub data Reads : Reader → List ℕ → List ℕ → Reading → Type 0 where
-  -- more bytes are read, behind those of the window
+  -- more bytes are read, after those of the window
   fill : {R : Reader} {w : List ℕ} (a : List ℕ) {rest : List ℕ} {s : Reading} → Reads R (w ++ a) rest s → Reads R w (a ++ rest) s
   -- one field is taken from the window
   take : {R : Reader} {w rest : List ℕ} {R′ : Reader} {w′ : List ℕ} {s : Reading} → Wide w rest → oneField R w ≡ more R′ w′ → Reads R′ w′ rest s → Reads R w rest s

@@ -1,4 +1,4 @@
-// Where the reading of a map file stands.
+// How far a map file was read.
 use crate::head::Expected;
 use held::map::Map;
 ghost use mathlib.Core.Path.{_≡_};

@@ -1,4 +1,4 @@
--- Text put into a list: one entry, one text behind another, one entry before what is put. Assumes nothing.
+-- Text put into a list: one entry, one text after another, one entry before what is put. Assumes nothing.
 use Prim.Native.Nat.{ℕ, suc, _+_, _≤_, _<_}
 use native.Mathlib.Numerals.{add-one}
 use native.Mathlib.Omega.{arith}
@@ -22,7 +22,7 @@ module _ {s t t′ : List ℕ} {a b : ℕ} (p : Put s a b t t′) (h : a ≤ len
   front-long : length (take a t ++ s) ≡ b
   front-long = simp (length-append, length-take-le a t h) (sym (p .end))
 
-  -- one text behind another
+  -- one text after another
   pub put-then : {u t″ : List ℕ} {c : ℕ} → Put u b c t′ t″ → Put (s ++ u) a c t t″
   put-then {u} {t″} {c} q =
       let x : take b t′ ≡ take a t ++ s = ap (take b) (p .is) ∙ take-at (take a t ++ s) (drop b t) b front-long in

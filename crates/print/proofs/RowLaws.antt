@@ -1,4 +1,4 @@
--- Lines one behind another, whatever a line is. Assumes nothing.
+-- Lines one after another, of any kind of line. Assumes nothing.
 use Prim.Native.Nat.{ℕ, zero, suc, _+_, _*_, _≤_, _<_}
 use native.Mathlib.Nat.{le-of-suc-le-suc, not-suc-le-zero}
 use native.Mathlib.Numerals.{add-one}

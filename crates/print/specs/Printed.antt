@@ -8,7 +8,7 @@ use lib.Dec.{leb}
 use lib.ListN.{drop, length, take}
 use Rattle.model.specs.Listing.{pairLine, pointLine}
 
--- s stands in t′ from the place `at` up to r, and all else is as it was in t
+-- s is in t′ from the place `at` up to r, and all else is as it was in t
 pub record Put (s : List ℕ) (at r : ℕ) (t t′ : List ℕ) : Type 0 where
   pub end : r ≡ at + length s
   pub is : t′ ≡ take at t ++ s ++ drop r t
@@ -45,7 +45,7 @@ pointRow k s b = pointLine k s (blockOf b)
 abbrev pub pairRow : ℕ → ℕ → ℕ → List ℕ
 pairRow j k b = pairLine j k (blockOf b)
 
--- n lines fit: the other columns have n entries too, and there is room behind the place `at` of so many bytes
+-- n lines fit: the other columns have n entries too, and from the place `at` on there is room for n lines in so many bytes
 abbrev pub linesFit : ℕ → ℕ → ℕ → ℕ → ℕ → Bool
 linesFit n second third at bytes = leb n second && leb n third && leb (at + lineRoom * n) bytes
 

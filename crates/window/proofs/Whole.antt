@@ -37,7 +37,7 @@ refused w r b out e =
       outside = λ _. refl;
     })
 
--- the window's bytes were moved to the front, as in b₁, and what is behind them was filled
+-- the window's bytes were moved to the front, as in b₁, and the rest was filled
 pub filled : (w w′ : Window) (b b₁ b′ : List ℕ) → Within w b → w .ended ≡ false → w .end - w .from < wanted → length b′ ≡ length b
     → take (w .end - w .from) b₁ ≡ take (w .end - w .from) (drop (w .from) b) → Filled (w .end - w .from) w′ b₁ b′ → Refilled w w′ b b′
 filled w w′ b b₁ b′ within on narrow long moved f =

@@ -1,4 +1,4 @@
--- `count::join_above`: the cell above stands next in the table, if anywhere. Assumes nothing.
+-- `count::join_above`: the cell above is next in the table, if anywhere. Assumes nothing.
 use Prim.Native.Nat.{_+_}
 use native.Mathlib.Omega.{arith}
 use mathlib.Core.Path.{refl}

@@ -1,4 +1,4 @@
--- `count::join_at`: what is joined, if anything, stands at `at`. Assumes nothing.
+-- `count::join_at`: what is joined, if anything, is at `at`. Assumes nothing.
 use native.Mathlib.Omega.{arith}
 use mathlib.Core.Path.{sym, _∙_}
 use borrow.Author.Needs.{needs}

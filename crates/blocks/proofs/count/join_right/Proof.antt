@@ -1,4 +1,4 @@
--- `count::join_right`: the cell to the right is sought behind place i. Assumes nothing.
+-- `count::join_right`: the cell to the right is looked for after place i. Assumes nothing.
 use Prim.Native.Nat.{_+_}
 use native.Mathlib.Omega.{arith}
 use mathlib.Core.Path.{refl}

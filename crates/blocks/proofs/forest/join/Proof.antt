@@ -13,7 +13,7 @@ returns c =
     let s = p .before .before .before in
     joined-same (s .args .parents .now) (p .root-of .last .0) (s .args .to) (s .args .at) (p .root-of .result) (p .root-of .ensures .0) (p .root-of .ensures .1) (c .if1 .taken)
 
--- the root found is no place behind `at`
+-- the root that is found does not come after `at`
 inside : (c : tie.Else1) → c .before .before .before .root-of .result < length (c .before .before .before .root-of .last .0)
 inside c =
     let p = c .before .before .before in

@@ -1,4 +1,4 @@
--- `cell::put_cell`: x, what stands between, y. Assumes nothing.
+-- `cell::put_cell`: x, what is between, y. Assumes nothing.
 use Prim.Native.Nat.{_≤_}
 use native.Mathlib.Omega.{arith}
 use lib.ListN.{length}

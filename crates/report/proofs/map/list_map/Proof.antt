@@ -1,4 +1,4 @@
--- `map::list_map`: the refusal that is due, or the counts, the points and the pairs one behind another. Assumes nothing.
+-- `map::list_map`: the refusal that is due, or the counts, the points and the pairs one after another. Assumes nothing.
 use borrow.Author.Needs.{needs}
 use Prim.Native.Nat.{ℕ, _≤_}
 use native.Mathlib.Nat.{le-refl}

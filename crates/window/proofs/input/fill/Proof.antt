@@ -1,4 +1,4 @@
--- `input::fill` meets its contract: a read behind `end` leaves what stands before it (Down.antt). Assumes nothing.
+-- `input::fill` meets its contract: a read from `end` on leaves what comes before it (Down.antt). Assumes nothing.
 use Prim.Native.Nat.{_-_, _≤_}
 use native.Mathlib.Omega.{arith}
 use mathlib.Core.Path.{_≡_, refl}

@@ -1,4 +1,4 @@
--- `input::move_down` meets its contract: the bytes passed stand in front, and the others are where they were (Down.antt). Assumes nothing.
+-- `input::move_down` meets its contract: the bytes that were passed are at the front, and the others are where they were (Down.antt). Assumes nothing.
 use Prim.Native.Nat.{_-_, _≤_}
 use native.Mathlib.Omega.{arith}
 use mathlib.Core.Path.{_≡_, refl}
