@@ -1,6 +1,7 @@
 // The occupied cells of a map, and those with a corner.
 use crate::judge::Count;
 use crate::judge::lacks;
+use crate::judge::lacks_three;
 use crate::judge::refuse;
 use crate::judge::refused;
 use held::map::Map;
@@ -55,11 +56,7 @@ pub fn occupied_cells(map: Map, cells: &[u64], out: &mut [u64]) -> Count
 pub fn corner_cells(map: Map, cells: &[u64], out: &mut [u64], statuses: &mut [u8]) -> Count
     ensures { λ r. ⌜ CornerCells map (now (cells .entry)) (now (out .entry)) (now (statuses .entry)) (now (out .exit)) (now (statuses .exit)) r ⌝ }
 {
-    let short = lacks(
-        cells.len(),
-        CELLS,
-        lacks(out.len(), CELLS, lacks(statuses.len(), CELLS, false)),
-    );
+    let short = lacks_three(cells.len(), out.len(), statuses.len(), CELLS, false);
     let number = refuse(short, map, false, false);
     if number != 0 {
         return refused(number);

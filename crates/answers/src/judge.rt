@@ -11,7 +11,7 @@ use sizes::POINTS;
 ghost use mathlib.Core.Path.{_≡_};
 ghost use mathlib.Core.Bool.{_||_};
 ghost use lib.Dec.{ltb};
-ghost use mathlib.Core.List.{List};
+ghost use mathlib.Core.List.{List, _∷_};
 ghost use Prim.Native.Nat.{ℕ, _+_};
 ghost use Rattle.model.specs.Limits.{beyond, maxCoordinate};
 ghost use Rattle.model.specs.Refusal.{offMap, short};
@@ -44,6 +44,13 @@ pub fn lacks(length: usize, need: usize, rest: bool) -> bool
     rest
 }
 
+// 9: whether one of three tables with the same need is, or one of the rest is.
+pub fn lacks_three(first: usize, second: usize, third: usize, need: usize, rest: bool) -> bool
+    ensures { λ r. ⌜ ((l : List (ℕ × ℕ)) → rest ≡ short l → r ≡ short ((first, need) ∷ (second, need) ∷ (third, need) ∷ l)) ⌝ }
+{
+    lacks(first, need, lacks(second, need, lacks(third, need, rest)))
+}
+
 // 9: whether one of a map's five tables is short of its need, or one of the rest is.
 pub fn lacks_tables(
     cells: usize,
@@ -55,12 +62,14 @@ pub fn lacks_tables(
 ) -> bool
     ensures { λ r. ⌜ ((l : List (ℕ × ℕ)) → rest ≡ short l → r ≡ short (tableNeeds cells points statuses blockers pairs l)) ⌝ }
 {
-    let layer = lacks(
+    let layer = lacks_three(
+        points,
         statuses,
+        blockers,
         POINTS,
-        lacks(blockers, POINTS, lacks(pairs, PAIRS, rest)),
+        lacks(pairs, PAIRS, rest),
     );
-    lacks(cells, CELLS, lacks(points, POINTS, layer))
+    lacks(cells, CELLS, layer)
 }
 
 // Whether a coordinate is further outside than one in a question may be.

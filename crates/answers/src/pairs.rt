@@ -1,6 +1,7 @@
 // The pairs of a map, each once, lesser cell first, ascending.
 use crate::judge::Count;
 use crate::judge::lacks;
+use crate::judge::lacks_three;
 use crate::judge::refuse;
 use crate::judge::refused;
 use held::map::Map;
@@ -78,11 +79,7 @@ pub fn all_pairs(
     ensures { λ r. ⌜ AllPairs map (now (points .entry)) (now (pairs .entry)) (now (lesser .entry)) (now (greater .entry)) (now (blocks .entry))
         (now (lesser .exit)) (now (greater .exit)) (now (blocks .exit)) r ⌝ }
 {
-    let outputs = lacks(
-        lesser.len(),
-        LISTED,
-        lacks(greater.len(), LISTED, lacks(blocks.len(), LISTED, false)),
-    );
+    let outputs = lacks_three(lesser.len(), greater.len(), blocks.len(), LISTED, false);
     let short = lacks(points.len(), POINTS, lacks(pairs.len(), PAIRS, outputs));
     let number = refuse(short, map, false, false);
     if number != 0 {

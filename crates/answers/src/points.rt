@@ -1,6 +1,6 @@
 // The points of a map.
 use crate::judge::Count;
-use crate::judge::lacks;
+use crate::judge::lacks_three;
 use crate::judge::refuse;
 use crate::judge::refused;
 use held::map::Map;
@@ -25,19 +25,13 @@ pub fn all_points(
     ensures { λ r. ⌜ AllPoints map (now (points .entry)) (now (statuses .entry)) (now (blockers .entry)) (now (out .entry)) (now (bits .entry))
         (now (blocks .entry)) (now (out .exit)) (now (bits .exit)) (now (blocks .exit)) r ⌝ }
 {
-    let outputs = lacks(
-        out.len(),
-        POINTS,
-        lacks(bits.len(), POINTS, lacks(blocks.len(), POINTS, false)),
-    );
-    let short = lacks(
+    let outputs = lacks_three(out.len(), bits.len(), blocks.len(), POINTS, false);
+    let short = lacks_three(
         points.len(),
+        statuses.len(),
+        blockers.len(),
         POINTS,
-        lacks(
-            statuses.len(),
-            POINTS,
-            lacks(blockers.len(), POINTS, outputs),
-        ),
+        outputs,
     );
     let number = refuse(short, map, false, false);
     if number != 0 {
@@ -74,11 +68,7 @@ fn write_free(points: &[u64], blockers: &[u64], out: &mut [u64]) -> usize
 pub fn free_points(map: Map, points: &[u64], blockers: &[u64], out: &mut [u64]) -> Count
     ensures { λ r. ⌜ FreePoints map (now (points .entry)) (now (blockers .entry)) (now (out .entry)) (now (out .exit)) r ⌝ }
 {
-    let short = lacks(
-        points.len(),
-        POINTS,
-        lacks(blockers.len(), POINTS, lacks(out.len(), POINTS, false)),
-    );
+    let short = lacks_three(points.len(), blockers.len(), out.len(), POINTS, false);
     let number = refuse(short, map, false, false);
     if number != 0 {
         return refused(number);

@@ -6,8 +6,9 @@ use mathlib.Core.Bool.{false}
 use mathlib.Core.List.{List, [], _∷_}
 use lib.ListN.{length}
 use Rattle.answers.proofs.ListingLaws.{listing-done, listing-refused}
-use Rattle.answers.proofs.PassedLaws.{accepted, none-short, lacks-short}
+use Rattle.answers.proofs.PassedLaws.{accepted, none-short}
 use Rattle.answers.specs.Asking.{refuseMap}
+use Rattle.model.specs.Limits.{maxCells, maxPoints}
 use Rattle.model.specs.Refusal.{short}
 use Rattle.held.proofs.RoomLaws.{Enough}
 use Rattle.answers.proofs.PointLaws.{free-written, used}
@@ -15,24 +16,17 @@ use Rattle.answers.proofs.points.free_points.Statement.{statement}
 use Rattle.answers.proofs.points.free_points.Tie as tie
 
 abbrev start : tie.After-refuse → tie.Start
-start p = p .before .before .before .before .before .before .before
+start p = p .before .before .before .before .before
 
 -- what is lent, with its needs
 abbrev lent : tie.Start → List (ℕ × ℕ)
-lent s = let a = s .args in (length (a .points .now), 64) ∷ (length (a .blockers .now), 64) ∷ (length (a .out .now), 64) ∷ []
+lent s = let a = s .args in (length (a .points .now), maxPoints) ∷ (length (a .blockers .now), maxPoints) ∷ (length (a .out .now), maxPoints) ∷ []
 
 -- what was answered, and what it says of the lent tables where it is 0
 number : (p : tie.After-refuse) → p .refuse .result ≡ refuseMap (short (lent (start p))) (start p .args .map) false false
-number p =
-    let i = p .before in
-    let h = i .before in
-    let g = h .before in
-    let e1 = lacks-short _ 64 _ false (g .lacks .result) (g .lacks .ensures) none-short in
-    let e2 = lacks-short _ 64 _ (g .lacks .result) (h .lacks2 .result) (h .lacks2 .ensures) e1 in
-    let e3 : i .lacks3 .result ≡ short (lent (start p)) = lacks-short _ 64 _ (h .lacks2 .result) (i .lacks3 .result) (i .lacks3 .ensures) e2 in
-    rw (← e3) (p .refuse .ensures)
+number p = rw (← p .before .lacks-three .ensures [] none-short) (p .refuse .ensures)
 
-accept : (p : tie.Else1) → Enough (lent (start (p .before))) × (start (p .before) .args .map .cells ≤ 1024) × (start (p .before) .args .map .points ≤ 64)
+accept : (p : tie.Else1) → Enough (lent (start (p .before))) × (start (p .before) .args .map .cells ≤ maxCells) × (start (p .before) .args .map .points ≤ maxPoints)
 accept p = let s = start (p .before) in accepted (lent s) (s .args .map) false false (p .before .refuse .result) (number (p .before)) (p .if1 .left)
 
 returns : tie.Need-returns
@@ -73,8 +67,6 @@ pub free-points-spec : {M : Type 1} → statement M
 free-points-spec =
     tie.close
     (tie.spec
-    (λ c κs. tt)
-    (λ c κs. tt)
     (λ c κs. tt)
     (λ c κs. tt)
     (λ c κs. tt)
