@@ -1,4 +1,4 @@
--- `cells::corner_cells`: each cell in turn, written where its status is not 0. Assumes nothing.
+-- `cells::corner_cells`: one cell after another, written where its status is not 0. Assumes nothing.
 use Prim.Native.Nat.{_-_, zero-le}
 use native.Mathlib.Omega.{arith}
 use mathlib.Core.Path.{refl}

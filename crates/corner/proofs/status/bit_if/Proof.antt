@@ -1,4 +1,4 @@
--- `corner::bit_if`: three questions in turn. Assumes nothing.
+-- `status::bit_if`: three questions, one after another. Assumes nothing.
 use borrow.Author.Needs.{needs}
 use mathlib.Core.Path.{sym, _∙_, refl}
 use native.Mathlib.Omega.{arith}

@@ -1,4 +1,4 @@
--- `corner::status_of`: the four corners of an occupied cell, each where its three neighbours are free. Assumes nothing.
+-- `status::status_of`: the four corners of an occupied cell, each where its three neighbours are free. Assumes nothing.
 use mathlib.Core.Path.{sym, _∙_}
 use Rattle.corner.proofs.CornersLaws.{status-sum, status-none}
 use borrow.Author.Needs.{needs}
