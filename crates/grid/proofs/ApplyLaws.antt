@@ -15,7 +15,7 @@ use Rattle.corner.proofs.ChangeLaws.{numbered-count}
 use Rattle.limits.specs.Batches.{flags}
 use Rattle.limits.specs.declared.floor.Floor.{Floor}
 use Rattle.limits.proofs.FloorLaws.{holds-cells}
-use Rattle.batches.proofs.AlterLaws.{Alters, Confirms, changes-turned, corners-listed, flags-count}
+use Rattle.batches.proofs.AlterLaws.{Alters, Confirms, changes-keys, corners-listed, flags-count}
 use Rattle.batches.proofs.BatchLaws.{Settled, settled}
 use Rattle.batches.proofs.CommitLaws.{Commits, committed, committed-cells, committed-holds}
 use Rattle.grid.specs.Change.{Applying, Done}
@@ -44,7 +44,7 @@ module _ (floor : Floor) (l : List Entry) (t conf conf′ full full′ corn corn
     listed = subst (λ (u : List ℕ). Confirms l u conf conf′ full full′ changes) same f (a .holds .order) (a .order) (a .bounds) hc hf
 
     turned : take changes conf′ ≡ keys ch
-    turned = changes-turned l C conf conf′ full full′ changes (a .holds .order) (a .order) (a .bounds) listed
+    turned = changes-keys l C conf conf′ full full′ changes (a .holds .order) (a .order) (a .bounds) listed
 
     module _ (g : Alters (take n t) (take changes conf′) corn corn′ stat stat′ altered) (h : Commits (take maxCells t) n (take changes conf′) (take changes full′) w after) where
       corners : Listed (numbered (cornerChanges C C′ ch)) corn corn′ stat stat′ altered

@@ -10,7 +10,7 @@ use lib.ListN.{length, drop, getD, drop-of-length-le}
 use lib.Seq.{drop-cons}
 use Rattle.batches.proofs.ListedLaws.{flags-at}
 use Rattle.table.proofs.ListedLaws.{keys-at}
-use Rattle.batches.proofs.WriteLaws.{Says}
+use Rattle.batches.proofs.WriteLaws.{Means}
 use Rattle.limits.specs.Batches.{flags}
 use Rattle.model.specs.Batch.{Batch}
 use Rattle.model.specs.ClosedForm.{pointRun}
@@ -38,7 +38,7 @@ unfolding edgeRun
 edge-turns t C p q = record { done = λ o. refl; turn = λ e ch o. refl }
 
 -- the entry at a place
-pub change-at : (ch : Batch) (turned full : List ℕ) (i : ℕ) (u : Bool) → turned ≡ keys ch → full ≡ values (flags ch) → i < length turned → Says (getD full i 0) u
+pub change-at : (ch : Batch) (turned full : List ℕ) (i : ℕ) (u : Bool) → turned ≡ keys ch → full ≡ values (flags ch) → i < length turned → Means (getD full i 0) u
     → drop i ch ≡ (getD turned i 0, u) ∷ drop (i + 1) ch
 change-at ch turned full i u p q h e =
     let l : i < length ch = rw (p, keys-length ch) at h in
@@ -72,7 +72,7 @@ running-start P F turned full start =
 module _ {P : Type 0} {F : Batch → Option ℕ → Option ℕ} {step : ℕ → Bool → Option ℕ → Option ℕ} {turned full : List ℕ} {start i block : ℕ}
     (s : Turns F step) (r : Running P F turned full start i block) where
   -- the change at i, which says u
-  pub running-next : (next : ℕ) (u : Bool) → i < length turned → Says (getD full i 0) u
+  pub running-next : (next : ℕ) (u : Bool) → i < length turned → Means (getD full i 0) u
       → (P → (o : Option ℕ) → Inside maxCoordinate (getD turned i 0) → Coded block o → Coded next (step (getD turned i 0) u o)) → Running P F turned full start (i + 1) next
   running-next next u h e f = record {
     inside = omega arith;

@@ -10,7 +10,7 @@ use borrow.Author.Tests.{eq-eqb, ne-eqb}
 use lib.Dec.{eqb}
 use lib.Ieee.{Float}
 use lib.ListN.{length, getD}
-use Rattle.batches.proofs.WriteLaws.{Says, says-free, says-full}
+use Rattle.batches.proofs.WriteLaws.{Means, means-free, means-full}
 use Rattle.limits.specs.Batches.{flags}
 use Rattle.model.specs.Batch.{Batch}
 use Rattle.model.specs.Good.{Inside}
@@ -91,7 +91,7 @@ module _ {size radius : Float} {C : List ℕ} {p q : ℕ} {says : ℕ → Bool} 
   c = getD turned i 0
 
   -- the change at i makes r of the blocker
-  step : i < length turned → (u : Bool) → Says (getD full i 0) u → (r : ℕ)
+  step : i < length turned → (u : Bool) → Means (getD full i 0) u → (r : ℕ)
       → ((o : Option ℕ) → AscL 0 C → All (Inside maxCoordinate) C → Answers t p q says → 2 ≤ c → block ≡ blockCode o → r ≡ blockCode (edgeAfter t C p q c u o))
       → Running size radius C p q says turned full start (i + 1) r
   step h u s r f =
@@ -103,16 +103,16 @@ module _ {size radius : Float} {C : List ℕ} {p q : ℕ} {says : ℕ → Bool} 
 
   pub running-freed : i < length turned → getD full i 0 ≡ 0 → block ≡ c → (r : ℕ) → (AscL 0 C → All (Inside maxCoordinate) C → r ≡ blockCode (t .sweep C p q .cell))
       → Running size radius C p q says turned full start (i + 1) r
-  running-freed h e b r f = step h false (says-free e) r (λ o y a s n m. f y a ∙ ap blockCode (freed t C p q c o n (sym m ∙ b)))
+  running-freed h e b r f = step h false (means-free e) r (λ o y a s n m. f y a ∙ ap blockCode (freed t C p q c o n (sym m ∙ b)))
 
   pub running-kept : i < length turned → getD full i 0 ≡ 0 → block ≢ c → Running size radius C p q says turned full start (i + 1) block
-  running-kept h e b = step h false (says-free e) block (λ o y a s n m. m ∙ ap blockCode (kept t C p q c o (λ v. b (m ∙ v))))
+  running-kept h e b = step h false (means-free e) block (λ o y a s n m. m ∙ ap blockCode (kept t C p q c o (λ v. b (m ∙ v))))
 
   pub running-passed : i < length turned → getD full i 0 ≢ 0 → c < 2 ^ 64 → says c ≡ true → Running size radius C p q says turned full start (i + 1) c
-  running-passed h e l b = step h true (says-full e) c (λ o y a s n m. ap blockCode (filled t C p q c o true (sym (s c l) ∙ b)))
+  running-passed h e l b = step h true (means-full e) c (λ o y a s n m. ap blockCode (filled t C p q c o true (sym (s c l) ∙ b)))
 
   pub running-missed : i < length turned → getD full i 0 ≢ 0 → c < 2 ^ 64 → says c ≡ false → Running size radius C p q says turned full start (i + 1) block
-  running-missed h e l b = step h true (says-full e) block (λ o y a s n m. m ∙ ap blockCode (filled t C p q c o false (sym (s c l) ∙ b)))
+  running-missed h e l b = step h true (means-full e) block (λ o y a s n m. m ∙ ap blockCode (filled t C p q c o false (sym (s c l) ∙ b)))
 
   pub running-end : length turned ≤ i → (ch : Batch) (o : Option ℕ) → Lent C ch turned full → Answers t p q says → start ≡ blockCode o → Named o → block ≡ blockCode (edgeRun t C p q ch o)
   running-end h ch o g a e n =

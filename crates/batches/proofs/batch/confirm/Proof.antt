@@ -24,16 +24,16 @@ room : (c : tie.Else2 Inv-loop μ-loop) → let a = c .before .before .before .b
 room c = let a = c .before .before .before .before .before .args in ltb-false (length (a .full .now)) (length (a .batch .now) / 3) (c .if2 .left)
 
 -- what was looked up of the entry at i
-looked : (c : tie.After-turns Inv-loop μ-loop) →
+looked : (c : tie.After-alters Inv-loop μ-loop) →
     let k = c .before .before in
     let f = c .before in
     let l = c .before .before .before .before in
     let a = l .before .before .before .before .before .before .args in
-    Looked (a .cells .now) (a .batch .now) (l .loop .i) (k .key-at .result) (f .full-at .result) (c .turns .result)
+    Looked (a .cells .now) (a .batch .now) (l .loop .i) (k .key-at .result) (f .full-at .result) (c .alters .result)
 looked c =
     let k = c .before .before in
     let f = c .before in
-    record { there = k .before .loop-test .taken; isKey = k .key-at .ensures; says = f .full-at .ensures; turns = c .turns .ensures }
+    record { there = k .before .loop-test .taken; isKey = k .key-at .ensures; full = f .full-at .ensures; alters = c .alters .ensures }
 
 returns : tie.Need-returns Inv-loop μ-loop
 returns c =
@@ -57,8 +57,8 @@ key-at-requires c κs = search needs
 full-at-requires : tie.Need-full-at-requires Inv-loop μ-loop
 full-at-requires c κs = search needs
 
-turns-requires : tie.Need-turns-requires Inv-loop μ-loop
-turns-requires c κs = search needs
+alters-requires : tie.Need-alters-requires Inv-loop μ-loop
+alters-requires c κs = search needs
 
 mul-out : tie.Need-mul-out Inv-loop μ-loop
 mul-out c = search needs
@@ -124,7 +124,7 @@ confirm-spec =
     add-loop
     key-at-requires
     full-at-requires
-    turns-requires
+    alters-requires
     mul-out
     slice-write-out
     flag-requires

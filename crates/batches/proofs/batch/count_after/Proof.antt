@@ -17,16 +17,16 @@ abbrev μ-loop : tie.MeasureT-loop
 μ-loop cells batch more₀ less₀ i₀ more less i = length batch - i
 
 -- what was looked up of the entry at i
-looked : (c : tie.After-turns Inv-loop μ-loop) →
+looked : (c : tie.After-alters Inv-loop μ-loop) →
     let k = c .before in
     let f = c .before .before in
     let l = c .before .before .before .before in
     let a = l .before .before .args in
-    Looked (a .cells .now) (a .batch .now) (l .loop .i) (k .key-at .result) (f .full-at .result) (c .turns .result)
+    Looked (a .cells .now) (a .batch .now) (l .loop .i) (k .key-at .result) (f .full-at .result) (c .alters .result)
 looked c =
     let k = c .before in
     let f = c .before .before in
-    record { there = f .before .loop-test .taken; isKey = k .key-at .ensures; says = f .full-at .ensures; turns = c .turns .ensures }
+    record { there = f .before .loop-test .taken; isKey = k .key-at .ensures; full = f .full-at .ensures; alters = c .alters .ensures }
 
 loop-holds : tie.Need-loop-holds Inv-loop μ-loop
 loop-holds c = let a = c .before .args in counted-start (a .cells .now) (a .batch .now)
@@ -40,8 +40,8 @@ full-at-requires c κs = search needs
 key-at-requires : tie.Need-key-at-requires Inv-loop μ-loop
 key-at-requires c κs = search needs
 
-turns-requires : tie.Need-turns-requires Inv-loop μ-loop
-turns-requires c κs = search needs
+alters-requires : tie.Need-alters-requires Inv-loop μ-loop
+alters-requires c κs = search needs
 
 add-more : tie.Need-add-more Inv-loop μ-loop
 add-more c = search needs
@@ -88,7 +88,7 @@ count-after-spec =
     add-loop
     full-at-requires
     key-at-requires
-    turns-requires
+    alters-requires
     add-more
     add-less
     add-i

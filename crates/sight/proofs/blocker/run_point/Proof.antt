@@ -5,7 +5,7 @@ use mathlib.Core.Logic.{⊎-elim}
 use mathlib.Core.Bool.{true, false}
 use lib.ListN.{length, getD}
 use borrow.Author.Needs.{needs}
-use Rattle.batches.proofs.WriteLaws.{says-free, says-full}
+use Rattle.batches.proofs.WriteLaws.{means-free, means-full}
 use Rattle.model.specs.ClosedForm.{pointRun}
 use Rattle.model.specs.Map.{tests}
 use Rattle.sight.proofs.ChangeLaws.{Running, point-turns, running-start, running-next, running-end}
@@ -53,13 +53,13 @@ loop-again c =
     let k = getD (s .turned .now) (l .loop .i) 0 in
     let t = point-turns (tests (s .size) (s .radius)) (s .cells .now) (s .k) in
     ⊎-elim
-    (λ w. rw (w .3) (running-next t (l .loop .inv) (w .2 .result) false h (says-free (w .0 .taken)) (point-freed (s .size) (s .radius) (s .near) (s .cells .now) (s .k) k (l .loop .block) (w .2 .result) (w .1 .taken) (w .2 .ensures))))
+    (λ w. rw (w .3) (running-next t (l .loop .inv) (w .2 .result) false h (means-free (w .0 .taken)) (point-freed (s .size) (s .radius) (s .near) (s .cells .now) (s .k) k (l .loop .block) (w .2 .result) (w .1 .taken) (w .2 .ensures))))
     (⊎-elim
-    (λ w. rw (w .2) (running-next t (l .loop .inv) (l .loop .block) false h (says-free (w .0 .taken)) (point-kept (s .size) (s .radius) (s .near) (s .cells .now) (s .k) k (l .loop .block) (w .1 .left))))
+    (λ w. rw (w .2) (running-next t (l .loop .inv) (l .loop .block) false h (means-free (w .0 .taken)) (point-kept (s .size) (s .radius) (s .near) (s .cells .now) (s .k) k (l .loop .block) (w .1 .left))))
     (⊎-elim
-    (λ w. rw (w .4) (running-next t (l .loop .inv) k true h (says-full (w .0 .left)) (point-met (s .size) (s .radius) (s .near) (s .cells .now) (s .k) k (l .loop .block) (w .2 .result) (w .1 .taken) (w .2 .ensures) (w .3 .taken))))
+    (λ w. rw (w .4) (running-next t (l .loop .inv) k true h (means-full (w .0 .left)) (point-met (s .size) (s .radius) (s .near) (s .cells .now) (s .k) k (l .loop .block) (w .2 .result) (w .1 .taken) (w .2 .ensures) (w .3 .taken))))
     (λ w. rw (w .2)
-    (running-next t (l .loop .inv) (l .loop .block) true h (says-full (w .0 .left)) (point-apart (s .size) (s .radius) (s .near) (s .cells .now) (s .k) k (l .loop .block)
+    (running-next t (l .loop .inv) (l .loop .block) true h (means-full (w .0 .left)) (point-apart (s .size) (s .radius) (s .near) (s .cells .now) (s .k) k (l .loop .block)
     (⊎-elim (λ v z. sym (v .1 .ensures) ∙ v .2 .left) (λ v z. absurd (v .left z)) (w .1 .came)))))))
     (c .if1 .came)
 

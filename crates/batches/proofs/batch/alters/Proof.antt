@@ -1,9 +1,9 @@
--- `batch::turns`: an entry alters what it does not find. Assumes nothing.
+-- `batch::alters`: an entry alters what it does not find. Assumes nothing.
 use borrow.Author.Needs.{needs}
 use Rattle.model.specs.Maps.{has}
-use Rattle.batches.proofs.TurnLaws.{alters-full, alters-free}
-use Rattle.batches.proofs.batch.turns.Statement.{statement}
-use Rattle.batches.proofs.batch.turns.Tie as tie
+use Rattle.batches.proofs.PickedLaws.{alters-full, alters-free}
+use Rattle.batches.proofs.batch.alters.Statement.{statement}
+use Rattle.batches.proofs.batch.alters.Tie as tie
 
 contains-requires : tie.Need-contains-requires
 contains-requires c κs = search needs
@@ -21,5 +21,5 @@ returns-2 c =
     let s = c .before .before .before .args in
     λ a. rw (c .contains2 .ensures a, c .before .if1 .left) (alters-free (has (s .k) (s .cells .now)))
 
-pub turns-spec : {M : Type 1} → statement M
-turns-spec = tie.close (tie.spec contains-requires returns contains-requires-2 returns-2)
+pub alters-spec : {M : Type 1} → statement M
+alters-spec = tie.close (tie.spec contains-requires returns contains-requires-2 returns-2)
