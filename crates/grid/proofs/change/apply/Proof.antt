@@ -90,7 +90,7 @@ returns c =
     let p = first g in
     let a = start p .args in
     let room = start p .pre in
-    (refl, λ C y. applied (a .floor) (entries (a .batch .now)) (a .cells .now) (a .confirmed .now) (g .confirm .last .1 .1 .0) (a .full .now) (g .confirm .last .1 .1 .1 .0) (a .corners .now) (q .corner-changes .last .1 .1 .0) (a .statuses .now) (q .corner-changes .last .1 .1 .1 .0) (m .commit .last .0) (g .confirm .result) (q .corner-changes .result) (m .commit .result) C y (room .2) (room .3) (g .confirm .ensures .0) (q .corner-changes .ensures .0) (m .commit .ensures))
+    (refl, λ C y. applied (a .floor) (entries (a .batch .now)) (a .cells .now) (a .confirmed .now) (g .confirm .last .1 .1 .0) (a .full .now) (g .confirm .last .1 .1 .1 .0) (a .corners .now) (q .corner-changes .last .1 .1 .0) (a .altered .now) (q .corner-changes .last .1 .1 .1 .0) (m .commit .last .0) (g .confirm .result) (q .corner-changes .result) (m .commit .result) C y (room .2) (room .3) (g .confirm .ensures .0) (q .corner-changes .ensures .0) (m .commit .ensures))
 
 pub apply-spec : {M : Type 1} → statement M
 apply-spec =
