@@ -18,7 +18,7 @@ wrapping-sub-u64-requires c κs = search needs
 returns : tie.Need-returns
 returns c =
     let a = c .before .before .args in
-    λ b. rw (eq-eqb (a .d) 0 (c .before .if1 .taken)) (southwest (a .k) (a .s) (c .before .before .pre) b (c .wrapping-sub-u64 .result) (c .wrapping-sub-u64 .ensures) (omega arith))
+    λ b. rw (eq-eqb (a .d) 0 (c .before .if1 .taken)) (southwest (a .k) (a .shift) (c .before .before .pre) b (c .wrapping-sub-u64 .result) (c .wrapping-sub-u64 .ensures) (omega arith))
 
 wrapping-add-u64-requires : tie.Need-wrapping-add-u64-requires
 wrapping-add-u64-requires c κs = search needs
@@ -32,7 +32,7 @@ returns-2 c =
     let a = o .before .args in
     λ b.
     rw (ne-eqb (a .d) 0 (o .if1 .left), eq-eqb (a .d) 1 (c .before .before .if2 .taken))
-    (southeast (a .k) (a .s) (o .before .pre) b (c .before .wrapping-add-u64 .result) (c .wrapping-sub-u642 .result) (c .before .wrapping-add-u64 .ensures) (c .wrapping-sub-u642 .ensures) (omega arith))
+    (southeast (a .k) (a .shift) (o .before .pre) b (c .before .wrapping-add-u64 .result) (c .wrapping-sub-u642 .result) (c .before .wrapping-add-u64 .ensures) (c .wrapping-sub-u642 .ensures) (omega arith))
 
 wrapping-add-u64-requires-2 : tie.Need-wrapping-add-u64-requires-2
 wrapping-add-u64-requires-2 c κs = search needs
@@ -46,7 +46,7 @@ returns-3 c =
     let a = o .before .before .args in
     λ b.
     rw (ne-eqb (a .d) 0 (o .before .if1 .left), ne-eqb (a .d) 1 (o .if2 .left), eq-eqb (a .d) 2 (c .before .before .if3 .taken))
-    (northwest (a .k) (a .s) (o .before .before .pre) b (c .before .wrapping-add-u642 .result) (c .wrapping-sub-u643 .result) (c .before .wrapping-add-u642 .ensures) (c .wrapping-sub-u643 .ensures) (omega arith))
+    (northwest (a .k) (a .shift) (o .before .before .pre) b (c .before .wrapping-add-u642 .result) (c .wrapping-sub-u643 .result) (c .before .wrapping-add-u642 .ensures) (c .wrapping-sub-u643 .ensures) (omega arith))
 
 add-wrapping-add-u64 : tie.Need-add-wrapping-add-u64
 add-wrapping-add-u64 c = search needs
@@ -60,7 +60,7 @@ returns-4 c =
     let a = o .before .before .before .args in
     λ b.
     rw (ne-eqb (a .d) 0 (o .before .before .if1 .left), ne-eqb (a .d) 1 (o .before .if2 .left), ne-eqb (a .d) 2 (o .if3 .left))
-    (northeast (a .k) (a .s) (o .before .before .before .pre) b (c .wrapping-add-u643 .result) (c .wrapping-add-u643 .ensures))
+    (northeast (a .k) (a .shift) (o .before .before .before .pre) b (c .wrapping-add-u643 .result) (c .wrapping-add-u643 .ensures))
 
 pub shifted-spec : {M : Type 1} → statement M
 shifted-spec =

@@ -25,8 +25,8 @@ returns c =
     let m = n .before .before .before .before in
     let b = m .before .before .before .before in
     let a = start b .args in
-    λ ps cs M ro rt o e.
-    keys-many (a .shift) ps cs (a .points .now) (a .statuses .now) (a .corners .now) (a .bits .now) M (a .ks .now) (b .begin .last .1 .1 .1 .0) (m .mark-all .last .1 .0) o e (b .begin .ensures) (m .mark-all .ensures .1) (n .count .result) (n .count .ensures .1) (c .if1 .taken) (a .out .now) (a .told .now)
+    λ ps changed M ro rt o e.
+    keys-many (a .shift) ps changed (a .points .now) (a .statuses .now) (a .corners .now) (a .altered .now) M (a .candidates .now) (b .begin .last .1 .1 .1 .0) (m .mark-all .last .1 .0) o e (b .begin .ensures) (m .mark-all .ensures .1) (n .count .result) (n .count .ensures .1) (c .if1 .taken) (a .out .now) (a .told .now)
 
 pick-requires : tie.Need-pick-requires
 pick-requires c κs = search needs
@@ -48,8 +48,8 @@ returns-2 c =
     let m = n .before .before .before .before in
     let b = m .before .before .before .before in
     let a = start b .args in
-    λ ps cs M ro rt o e.
-    keys-few (a .shift) ps cs (a .points .now) (a .statuses .now) (a .corners .now) (a .bits .now) M (a .ks .now) (b .begin .last .1 .1 .1 .0) (m .mark-all .last .1 .0) o e (b .begin .ensures) (m .mark-all .ensures .1) (n .count .result) (n .count .ensures .1) (f .if1 .left)
+    λ ps changed M ro rt o e.
+    keys-few (a .shift) ps changed (a .points .now) (a .statuses .now) (a .corners .now) (a .altered .now) M (a .candidates .now) (b .begin .last .1 .1 .1 .0) (m .mark-all .last .1 .0) o e (b .begin .ensures) (m .mark-all .ensures .1) (n .count .result) (n .count .ensures .1) (f .if1 .left)
     (a .out .now) (q .pick .last .1 .1 .0) (a .told .now) (q .pick .last .1 .1 .1 .0) (q .pick .result) ro rt (q .pick .ensures)
 
 pub mark-keys-spec : {M : Type 1} → statement M

@@ -9,15 +9,15 @@ use Rattle.marks.proofs.points.pick.Statement.{statement}
 use Rattle.marks.proofs.points.pick.Tie as tie
 
 abbrev Inv-loop : tie.InvT-loop
-Inv-loop ks moods out₀ told₀ n₀ i₀ out told n i = Picked ks moods out₀ out told₀ told n i
+Inv-loop candidates moods out₀ told₀ n₀ i₀ out told n i = Picked candidates moods out₀ out told₀ told n i
 
 abbrev μ-loop : tie.MeasureT-loop
-μ-loop ks moods out₀ told₀ n₀ i₀ out told n i = length ks - i
+μ-loop candidates moods out₀ told₀ n₀ i₀ out told n i = length candidates - i
 
 loop-holds : tie.Need-loop-holds Inv-loop μ-loop
 loop-holds c =
     let a = c .args in
-    picked-none (a .ks .now) (a .moods .now) (a .out .now) (a .told .now)
+    picked-none (a .candidates .now) (a .moods .now) (a .out .now) (a .told .now)
 
 mul-if1 : tie.Need-mul-if1 Inv-loop μ-loop
 mul-if1 c = omega arith
@@ -75,10 +75,10 @@ loop-again c =
     let o = t .before .before in
     let a = o .args in
     let more : l .i < length (a .moods .now) = omega (arith, o .pre, t .loop-test .taken) in
-    let pass = picked-pass (a .ks .now) (a .moods .now) (a .out .now) (l .out) (a .told .now) (l .told) (l .n) (l .i) (l .inv) more in
-    let full = picked-full (a .ks .now) (a .moods .now) (a .out .now) (l .out) (a .told .now) (l .told) (l .n) (l .i) (l .inv) more in
+    let pass = picked-pass (a .candidates .now) (a .moods .now) (a .out .now) (l .out) (a .told .now) (l .told) (l .n) (l .i) (l .inv) more in
+    let full = picked-full (a .candidates .now) (a .moods .now) (a .out .now) (l .out) (a .told .now) (l .told) (l .n) (l .i) (l .inv) more in
     ⊎-elim
-    (λ w. rw (w .5, w .6, w .7) (picked-more (a .ks .now) (a .moods .now) (a .out .now) (l .out) (a .told .now) (l .told) (l .n) (l .i) (l .inv) more (w .0 .taken) (ltb-true (l .n) (length (l .out)) (w .1 .taken)) (ltb-true (l .n) (length (l .told)) (w .2 .taken))))
+    (λ w. rw (w .5, w .6, w .7) (picked-more (a .candidates .now) (a .moods .now) (a .out .now) (l .out) (a .told .now) (l .told) (l .n) (l .i) (l .inv) more (w .0 .taken) (ltb-true (l .n) (length (l .out)) (w .1 .taken)) (ltb-true (l .n) (length (l .told)) (w .2 .taken))))
     (λ w.
     rw (w .1, w .2, w .3)
     (⊎-elim (λ x. full (x .0 .taken) (inr (ltb-false (l .n) (length (l .told)) (x .2 .left)))) (λ y. ⊎-elim (λ x. full (x .0 .taken) (inl (ltb-false (l .n) (length (l .out)) (x .1 .left)))) (λ x. pass (x .left)) y) (w .0 .came)))
@@ -95,7 +95,7 @@ returns c =
     let l = c .before .loop in
     let o = c .before .before in
     let a = o .args in
-    picked-done (a .ks .now) (a .moods .now) (a .out .now) (l .out) (a .told .now) (l .told) (l .n) (l .i) (l .inv) (o .pre) (c .loop-test .left)
+    picked-done (a .candidates .now) (a .moods .now) (a .out .now) (l .out) (a .told .now) (l .told) (l .n) (l .i) (l .inv) (o .pre) (c .loop-test .left)
 
 pub pick-spec : {M : Type 1} → statement M
 pick-spec =

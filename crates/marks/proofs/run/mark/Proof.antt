@@ -27,17 +27,17 @@ mul-of-word c = search needs
 abbrev start : tie.Then1 → tie.Start
 start c = c .before .before .before .before .before
 
-seen : (c : tie.Then1) → stands (start c .args .k) (c .before .before .place .result) (start c .args .ks .now) ≡ true
+seen : (c : tie.Then1) → stands (start c .args .k) (c .before .before .place .result) (start c .args .candidates .now) ≡ true
 seen c = sym (c .before .stands-at .ensures) ∙ c .if1 .taken
 
-within : (c : tie.Then1) → c .before .before .place .result < length (start c .args .ks .now)
-within c = stands-inside (start c .args .k) (c .before .before .place .result) (start c .args .ks .now) (seen c)
+inside : (c : tie.Then1) → c .before .before .place .result < length (start c .args .candidates .now)
+inside c = stands-inside (start c .args .k) (c .before .before .place .result) (start c .args .candidates .now) (seen c)
 
 -- the word that is read
 abbrev Was : (c : tie.After-of-word) → Type 0
 Was c =
     let a = start (c .before .before) .args in
-    (f : ℕ → Standing) → ((x : ℕ) → Small (f x)) → a .moods .now ≡ words f (a .ks .now) → c .of-word .result ≡ mood (f (a .k))
+    (f : ℕ → Standing) → ((x : ℕ) → Small (f x)) → a .moods .now ≡ words f (a .candidates .now) → c .of-word .result ≡ mood (f (a .k))
 
 was : (c : tie.After-of-word) → Was c
 was c =
@@ -45,10 +45,10 @@ was c =
     let t = c .before .before in
     let a = start t .args in
     let at = t .before .before .place .result in
-    c .of-word .ensures .2 (f (a .k)) (s (a .k)) (ap (λ (l : List ℕ). getD l at 0) e ∙ stands-read f (a .k) at (a .ks .now) (seen t))
+    c .of-word .ensures .2 (f (a .k)) (s (a .k)) (ap (λ (l : List ℕ). getD l at 0) e ∙ stands-read f (a .k) at (a .candidates .now) (seen t))
 
 slice-read-of-word : tie.Need-slice-read-of-word
-slice-read-of-word c = omega (arith, within (c .before))
+slice-read-of-word c = omega (arith, inside (c .before))
 
 of-word-requires : tie.Need-of-word-requires
 of-word-requires c κs = search needs
@@ -63,7 +63,7 @@ mul-moods : tie.Need-mul-moods
 mul-moods c = search needs
 
 slice-write-moods : tie.Need-slice-write-moods
-slice-write-moods c = omega (arith, within (c .before .before .before .before .before .before))
+slice-write-moods c = omega (arith, inside (c .before .before .before .before .before .before))
 
 same-length : tie.Need-same-length
 same-length c = search needs
@@ -77,7 +77,7 @@ returns c =
       length-set (a .moods .now) (p .result) (c .word .result),
       λ f o s e.
           let m = marked (a .n) (record { dir = dir (a .corner); at = a .k; on = a .on }) (f (a .k)) in
-          marked-word (a .n) (record { dir = dir (a .corner); at = a .k; on = a .on }) f (a .ks .now) (a .moods .now) (p .result) o (p .ensures .1 o) e (seen t) (c .word .result)
+          marked-word (a .n) (record { dir = dir (a .corner); at = a .k; on = a .on }) f (a .candidates .now) (a .moods .now) (p .result) o (p .ensures .1 o) e (seen t) (c .word .result)
           (c .word .ensures m (c .before .marked .ensures .3 (f (a .k)) (a .k) (was r f s e))),
     )
 
@@ -92,7 +92,7 @@ returns-3 c =
     let q = c .before .before in
     let a = q .before .before .before .args in
     let p = q .place in
-    (refl, λ f o s e. marked-none (a .n) (record { dir = dir (a .corner); at = a .k; on = a .on }) f (a .ks .now) (a .moods .now) (p .result) o (p .ensures .1 o) e (sym (c .before .stands-at .ensures) ∙ c .if1 .left))
+    (refl, λ f o s e. marked-none (a .n) (record { dir = dir (a .corner); at = a .k; on = a .on }) f (a .candidates .now) (a .moods .now) (p .result) o (p .ensures .1 o) e (sym (c .before .stands-at .ensures) ∙ c .if1 .left))
 
 pub mark-spec : {M : Type 1} → statement M
 mark-spec =
