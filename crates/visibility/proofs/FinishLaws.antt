@@ -61,7 +61,7 @@ module _ {m : Map} {M : model.Map} {l : List model.Entry} {t : Tables} {turned s
   u = f .updating
 
   turned-is : turned ≡ keys (ch M l)
-  turned-is = f .turnedAre ∙ flags-keys (ch M l)
+  turned-is = f .confirmedAre ∙ flags-keys (ch M l)
 
   -- ---- what `redraw` is lent
   seeing : Seeing (C′ M l) (ch M l) (S M l) turned says (keys (S M l)) (wordsOf (S M l))
@@ -71,7 +71,7 @@ module _ {m : Map} {M : model.Map} {l : List model.Entry} {t : Tables} {turned s
         inside = set u .stays (u .holds .cells .inside);
         changes = set u .inside;
         fitting = fitting (cs M l) (closed u) (good u .pointOrder) (u .holds .layer .room) (few-corners u);
-        turnedAre = turned-is;
+        confirmedAre = turned-is;
         fullAre = f .fullAre;
         pointsAre = refl;
         moodsAre = refl;
@@ -145,7 +145,7 @@ module _ {m : Map} {M : model.Map} {l : List model.Entry} {t : Tables} {turned s
           let i = few-changes u in
           let j = few-altered u in
           let turns : Listed (changesOf M l) conf conf′ full full′ (length turned) =
-          listed (changesOf M l) turned says conf conf′ full full′ (f .turnedAre) (f .fullAre) (omega (arith, i, hc)) (omega (arith, i, hf)) x y in
+          listed (changesOf M l) turned says conf conf′ full full′ (f .confirmedAre) (f .fullAre) (omega (arith, i, hc)) (omega (arith, i, hf)) x y in
           let alters : Listed (cornersOf M l) corn corn′ alt alt′ (length corners) =
           listed (cornersOf M l) corners bits corn corn′ alt alt′ (f .cornersAre) (f .bitsAre) (omega (arith, j, hn)) (omega (arith, j, ha)) z v in
           record {

@@ -212,7 +212,7 @@ module _ (m : Map) (r : Float) (t : Tables) (pass : refuseRadius (short (needs t
                 inside = h .cells .inside;
                 changes = tt;
                 fitting = fitting cs closed tt zero-le corners-few;
-                turnedAre = refl;
+                confirmedAre = refl;
                 fullAre = refl;
                 pointsAre = refl;
                 moodsAre = refl;

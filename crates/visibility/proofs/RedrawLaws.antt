@@ -83,7 +83,7 @@ module _ (t : Tests) (C : List â„•) (ch : Batch) (S : Stood) (B : List (Option â
     inside = d .seeing .inside;
     changes = d .seeing .changes;
     fitting = d .seeing .fitting;
-    turnedAre = d .seeing .turnedAre;
+    confirmedAre = d .seeing .confirmedAre;
     fullAre = d .seeing .fullAre;
     pointsAre = front;
     moodsAre = d .moodsAre;

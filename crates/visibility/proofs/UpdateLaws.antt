@@ -107,7 +107,7 @@ module _ {m : Map} {t : Tables} {M : model.Map} {l : List model.Entry} (u : Upda
           record {
             updating = u;
             packed = h;
-            turnedAre = listed-cells (changesOf M l) turned turned′ says says′ changes p;
+            confirmedAre = listed-cells (changesOf M l) turned turned′ says says′ changes p;
             fullAre = listed-numbers (changesOf M l) turned turned′ says says′ changes p;
             cornersAre = listed-cells (cornersOf M l) corners corners′ bits bits′ found q;
             bitsAre = listed-numbers (cornersOf M l) corners corners′ bits bits′ found q;

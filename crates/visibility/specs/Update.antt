@@ -39,7 +39,7 @@ pointsAfter M l = length (model.next (model.batch l) M .layer .points)
 pub record Finishing (m : Map) (t : Tables) (M : model.Map) (l : List model.Entry) (turned full corners bits ks moods : List ℕ) (n : ℕ) : Type 0 where
   pub updating : Updating m t M l
   pub packed : pointsAfter M l ≤ maxPoints
-  pub turnedAre : turned ≡ keys (changesOf M l)
+  pub confirmedAre : turned ≡ keys (changesOf M l)
   pub fullAre : full ≡ values (changesOf M l)
   pub cornersAre : corners ≡ keys (cornersOf M l)
   pub bitsAre : bits ≡ values (cornersOf M l)

@@ -1,4 +1,4 @@
--- `blocker::block_points`: the points in turn, each written to its place. Assumes nothing.
+-- `blocker::block_points`: the points one after another, each written to its place. Assumes nothing.
 use Prim.Native.Nat.{_-_, _≤_}
 use native.Mathlib.Omega.{arith}
 use mathlib.Core.Logic.{⊎-elim, inl, inr}
@@ -10,10 +10,10 @@ use Rattle.sight.proofs.blocker.block_points.Statement.{statement}
 use Rattle.sight.proofs.blocker.block_points.Tie as tie
 
 abbrev Inv-loop : tie.InvT-loop
-Inv-loop size radius near cells turned full points moods old out₀ i₀ out i = Blocking size radius near cells turned full points moods old out₀ i out
+Inv-loop size radius reach cells confirmed full points moods old out₀ i₀ out i = Blocking size radius reach cells confirmed full points moods old out₀ i out
 
 abbrev μ-loop : tie.MeasureT-loop
-μ-loop size radius near cells turned full points moods old out₀ i₀ out i = length points - i
+μ-loop size radius reach cells confirmed full points moods old out₀ i₀ out i = length points - i
 
 abbrev start : tie.After-slice-known Inv-loop μ-loop → tie.Start Inv-loop μ-loop
 start k = k .before .before .before .before .before .before .before

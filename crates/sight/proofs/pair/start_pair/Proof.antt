@@ -10,7 +10,7 @@ use Rattle.marks.specs.declared.mood.Mood.{Mood}
 use Rattle.model.specs.Limits.{maxPoints}
 use Rattle.model.specs.Map.{tests}
 use Rattle.held.specs.Codes.{pairCode}
-use Rattle.held.specs.Pairs.{Pairs}
+use Rattle.held.specs.Pairs.{Pairs, PairsBy}
 use Rattle.sight.specs.Paired.{oldPair}
 use Rattle.sight.proofs.PairLaws.{start-held, start-new, start-open}
 use Rattle.sight.proofs.pair.start_pair.Statement.{statement}
@@ -22,7 +22,7 @@ old-pair-requires c κs = search needs
 -- the number is the old pair's
 held : (c : tie.After-old-pair)
     → let a = c .before .before .before .args in
-    (P : ℕ → ℕ → Option (Option ℕ)) (w v : Standing) → Pairs P (a .old .now) → a .was ≡ mood w → a .other ≡ mood v → w .old ≤ maxPoints → v .old ≤ maxPoints
+    (P : PairsBy) (w v : Standing) → Pairs P (a .old .now) → a .was ≡ mood w → a .other ≡ mood v → w .old ≤ maxPoints → v .old ≤ maxPoints
     → c .old-pair .result ≡ pairCode (oldPair P w v)
 held c P w v s e f x y =
     let a = c .before .before .before .args in
