@@ -10,6 +10,7 @@ use mathlib.Core.Option.{Option, none, some}
 use lib.Dec.{T, eqb, ltb}
 use lib.ListN.{getD, length}
 use borrow.Author.Tests.{lt-ltb, le-ltb}
+use Rattle.held.specs.Pairs.{PairsBy}
 use Rattle.ieee.proofs.Tools.{lt-or-ge}
 use Rattle.marks.specs.Standing.{Standing, begun, sooner}
 use Rattle.marks.proofs.StandingLaws.{standing-ahead}
@@ -120,7 +121,7 @@ module _ {t : Tests} {C : List ℕ} {ch : Batch} {ms : List Mark} {l l′ : Laye
   abbrev at : ℕ → ℕ × Standing
   at i = pointAt (stoodOf ms (l .points) (l′ .points)) i
 
-  abbrev found : ℕ → ℕ → Option (Option ℕ)
+  abbrev found : PairsBy
   found i j = pairBetween t C ch (edgeAt l) (at i .0) (at i .1) (at j .0) (at j .1)
 
   found-is : (i j : ℕ) → i < j → j < n → found i j ≡ edge (key i) (key j) (l′ .edges)

@@ -12,7 +12,7 @@ use Rattle.held.proofs.RoomLaws.{Enough}
 use Rattle.held.specs.Codes.{codes}
 use Rattle.held.specs.Holds.{Holds, Tables, needs}
 use Rattle.held.specs.Layers.{blocksOf, edgeAt, statusesOf}
-use Rattle.held.specs.Pairs.{Pairs, pairPlace, pairPlaces}
+use Rattle.held.specs.Pairs.{Pairs, PairsBy, pairPlace, pairPlaces}
 use Rattle.held.specs.declared.map.Map.{Map}
 use Rattle.model.specs.Limits.{maxCells, maxPoints}
 use Rattle.model.specs.Map as model
@@ -32,7 +32,7 @@ module _ (cap : ℕ) (l u k : List ℕ) (few : length l ≤ cap) where
   whole-padded : u ≡ pad cap l ++ drop cap u → u ++ k ≡ pad cap l ++ drop cap (u ++ k)
   whole-padded e = written-whole cap l (drop cap u ++ k) (u ++ k) few (ap (λ (z : List ℕ). z ++ k) e ∙ append-assoc (pad cap l) (drop cap u) k)
 
-module _ (P : ℕ → ℕ → Option (Option ℕ)) (u k : List ℕ) (room : pairPlaces ≤ length u) where
+module _ (P : PairsBy) (u k : List ℕ) (room : pairPlaces ≤ length u) where
   same : (i j : ℕ) → i < maxPoints → j < maxPoints → getD (u ++ k) (pairPlace i j) 0 ≡ getD u (pairPlace i j) 0
   same i j h g = let x : pairPlace i j < length u = omega arith in List·getD-append u k 0 (pairPlace i j) x
 

@@ -5,12 +5,12 @@ use mathlib.Core.Logic.{⊎-elim, inl, inr}
 use mathlib.Core.Bool.{Bool, false}
 use lib.Dec.{ltb}
 use lib.Seq.{length-take-le}
+use Rattle.model.specs.Limits.{maxCells}
 use Rattle.model.specs.Refusal.{short}
-use Rattle.visibility.specs.Change.{Lent, lentNeeds, refuseBatch}
+use Rattle.visibility.specs.Change.{Lent, lentNeeds, lentOf, refuseBatch}
 use Rattle.held.specs.Holds as tables
 use Rattle.visibility.proofs.ChangeLaws.{Passed, batch-passed, crowded-refused, early-refused, packed-refused, short-either, updated}
 use Rattle.held.proofs.RoomLaws.{Enough, long-enough}
-use Rattle.visibility.proofs.UpdateLaws.{lentOf}
 use Rattle.visibility.proofs.change.change_cells.Statement.{statement}
 use Rattle.visibility.proofs.change.change_cells.Tie as tie
 
@@ -46,20 +46,20 @@ given p =
 -- the refusal that is due by the input
 due : (j : tie.After-judge) →
     let a = start j .args in
-    j .judge .result ≡ refuseBatch (short (lentNeeds (lent (start j)))) (a .map) (a .batch .now) (ltb 1024 (a .map .cells)) false
+    j .judge .result ≡ refuseBatch (short (lentNeeds (lent (start j)))) (a .map) (a .batch .now) (ltb maxCells (a .map .cells)) false
 due j =
     let a = start j .args in
     let i = j .before in
     let o = i .before in
     let t = lent (start j) in
     j .judge .ensures
-    ∙ ap (λ (s : Bool). refuseBatch s (a .map) (a .batch .now) (ltb 1024 (a .map .cells)) false)
+    ∙ ap (λ (s : Bool). refuseBatch s (a .map) (a .batch .now) (ltb maxCells (a .map .cells)) false)
     (short-either (tables.needs (t .tables)) _ (o .before .short-tables .result) (o .short-outputs .result) (i .if1 .short) (o .before .short-tables .ensures) (o .short-outputs .ensures)
     (⊎-elim (λ w. inl (w .0 .taken, w .1)) (λ w. inr (w .0 .left, w .1)) (i .if1 .came)))
 
 none : (c : tie.Else2) →
     let a = start (c .before) .args in
-    0 ≡ refuseBatch (short (lentNeeds (lent (start (c .before))))) (a .map) (a .batch .now) (ltb 1024 (a .map .cells)) false
+    0 ≡ refuseBatch (short (lentNeeds (lent (start (c .before))))) (a .map) (a .batch .now) (ltb maxCells (a .map .cells)) false
 none c = sym (c .if2 .left) ∙ due (c .before)
 
 passed : (c : tie.Else2) →

@@ -2,6 +2,7 @@
 use Prim.Native.Nat.{ℕ}
 use mathlib.Core.Path.{refl}
 use lib.ListN.{length, replicate}
+use Rattle.model.specs.Limits.{needCorners}
 use Rattle.visibility.proofs.UpdateLaws.{full-room, small-room}
 use Rattle.visibility.proofs.change.update.Statement.{statement}
 use Rattle.visibility.proofs.change.update.Tie as tie
@@ -76,7 +77,7 @@ update-within-requires-2 c κs =
     let t = large c in
     let s = start (t .before) in
     let w = s .pre in
-    (w .0, w .1, w .2, w .3, w .4, w .5, w .6, full-room (s .args .batch .now) (w .6), refl {a = length (replicate {A = ℕ} 2304 0)}, w .7, w .8, w .9, w .10)
+    (w .0, w .1, w .2, w .3, w .4, w .5, w .6, full-room (s .args .batch .now) (w .6), refl {a = length (replicate {A = ℕ} needCorners 0)}, w .7, w .8, w .9, w .10)
 
 same-length-10 : tie.Need-same-length-10
 same-length-10 c = large-ended c .update-within2 .kept .1 .0

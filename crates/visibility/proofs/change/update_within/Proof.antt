@@ -6,8 +6,8 @@ use lib.ListN.{replicate}
 use lib.Seq.{length-take-le}
 use Rattle.limits.specs.Batches.{entries}
 use Rattle.model.specs.Limits.{maxPoints}
-use Rattle.visibility.specs.Change.{Lent}
-use Rattle.visibility.proofs.UpdateLaws.{lentOf, reaches, update-finished, update-refused}
+use Rattle.visibility.specs.Change.{Lent, lentOf}
+use Rattle.visibility.proofs.UpdateLaws.{reaches, update-finished, update-refused}
 use Rattle.visibility.proofs.change.update_within.Statement.{statement}
 use Rattle.visibility.proofs.change.update_within.Tie as tie
 
@@ -34,7 +34,7 @@ planned p = planning (fitting p .before)
 abbrev lent : tie.Start → Lent
 lent s =
     let a = s .args in
-    lentOf (a .cells .now) (a .points .now) (a .statuses .now) (a .blockers .now) (a .pairs .now) (a .confirmed .now) (a .full .now) (a .corners .now) (a .altered .now)
+    lentOf (a .cells .now) (a .points .now) (a .statuses .now) (a .blockers .now) (a .pairs .now) (a .out-confirmed .now) (a .out-full .now) (a .out-corners .now) (a .out-altered .now)
 
 work-out-requires : tie.Need-work-out-requires
 work-out-requires c κs =
@@ -66,29 +66,29 @@ returns c =
     let s = start p in
     update-refused (s .args .map) (entries (s .args .batch .now)) (lent s) (p .work-out .ensures .6 (s .args .blockers .now) (s .args .pairs .now)) (c .refused .result) (c .before .if1 .taken) (c .refused .ensures)
 
-array-share-prefix-turned : tie.Need-array-share-prefix-turned
-array-share-prefix-turned c = planned c .work-out .ensures .0
+array-share-prefix-confirmed : tie.Need-array-share-prefix-confirmed
+array-share-prefix-confirmed c = planned c .work-out .ensures .0
 
 slice-aggregate-finish : tie.Need-slice-aggregate-finish
-slice-aggregate-finish c = let p = planned (c .before) in sym (length-take-le (p .work-out .result .changes) (p .work-out .last .1 .1 .1 .1 .1 .0) (p .work-out .ensures .0))
+slice-aggregate-finish c = let p = planned (c .before) in sym (length-take-le (p .work-out .result .confirmed) (p .work-out .last .1 .1 .1 .1 .1 .0) (p .work-out .ensures .0))
 
-array-share-prefix-says : tie.Need-array-share-prefix-says
-array-share-prefix-says c = planned (c .before) .work-out .ensures .1
+array-share-prefix-full : tie.Need-array-share-prefix-full
+array-share-prefix-full c = planned (c .before) .work-out .ensures .1
 
 slice-aggregate-finish-2 : tie.Need-slice-aggregate-finish-2
-slice-aggregate-finish-2 c = let p = planned (c .before .before) in sym (length-take-le (p .work-out .result .changes) (p .work-out .last .1 .1 .1 .1 .1 .1 .0) (p .work-out .ensures .1))
+slice-aggregate-finish-2 c = let p = planned (c .before .before) in sym (length-take-le (p .work-out .result .confirmed) (p .work-out .last .1 .1 .1 .1 .1 .1 .0) (p .work-out .ensures .1))
 
 slice-reshare-prefix-finish : tie.Need-slice-reshare-prefix-finish
 slice-reshare-prefix-finish c = planned (c .before .before) .work-out .ensures .2
 
 slice-aggregate-finish-3 : tie.Need-slice-aggregate-finish-3
-slice-aggregate-finish-3 c = let p = planned (c .before .before .before) in sym (length-take-le (p .work-out .result .altered) (p .work-out .last .1 .1 .1 .1 .1 .1 .1 .0) (p .work-out .ensures .2))
+slice-aggregate-finish-3 c = let p = planned (c .before .before .before) in sym (length-take-le (p .work-out .result .corners) (p .work-out .last .1 .1 .1 .1 .1 .1 .1 .0) (p .work-out .ensures .2))
 
 slice-reshare-prefix-finish-2 : tie.Need-slice-reshare-prefix-finish-2
 slice-reshare-prefix-finish-2 c = planned (c .before .before .before) .work-out .ensures .3
 
 slice-aggregate-finish-4 : tie.Need-slice-aggregate-finish-4
-slice-aggregate-finish-4 c = let p = planned (c .before .before .before .before) in sym (length-take-le (p .work-out .result .altered) (p .work-out .last .1 .1 .1 .1 .1 .1 .1 .1 .0) (p .work-out .ensures .3))
+slice-aggregate-finish-4 c = let p = planned (c .before .before .before .before) in sym (length-take-le (p .work-out .result .corners) (p .work-out .last .1 .1 .1 .1 .1 .1 .1 .1 .0) (p .work-out .ensures .3))
 
 slice-aggregate-finish-5 : tie.Need-slice-aggregate-finish-5
 slice-aggregate-finish-5 c = sym (planned (c .before .before .before .before .before) .work-out .ensures .4)
@@ -103,7 +103,7 @@ finish-requires c κs =
     let q = p .work-out .ensures in
     let l = p .work-out .last .1 .1 .1 .1 .1 .1 .1 .1 .1 in
     let w = start p .pre in
-    (w .1, fitting e .if1 .left, reaches (l .0) (q .4) (le-refl 64), reaches (l .1 .0) (q .5) (le-refl 64), le-trans (w .2) (w .5))
+    (w .1, fitting e .if1 .left, reaches (l .0) (q .4) (le-refl maxPoints), reaches (l .1 .0) (q .5) (le-refl maxPoints), le-trans (w .2) (w .5))
 
 same-length-6 : tie.Need-same-length-6
 same-length-6 c = ended c .finish .kept .1 .0
@@ -163,9 +163,9 @@ update-within-spec =
     same-length-4
     same-length-5
     returns
-    array-share-prefix-turned
+    array-share-prefix-confirmed
     slice-aggregate-finish
-    array-share-prefix-says
+    array-share-prefix-full
     slice-aggregate-finish-2
     slice-reshare-prefix-finish
     slice-aggregate-finish-3

@@ -24,7 +24,7 @@ greater-requires : tie.Need-greater-requires
 greater-requires c κs = search needs
 
 slice-aggregate-draw-pairs : tie.Need-slice-aggregate-draw-pairs
-slice-aggregate-draw-pairs c = let s = start (drawn (c .before .before)) in sym (length-take-le (s .args .n) (s .args .ks .now) (omega (arith, s .pre)))
+slice-aggregate-draw-pairs c = let s = start (drawn (c .before .before)) in sym (length-take-le (s .args .n) (s .args .present .now) (omega (arith, s .pre)))
 
 slice-aggregate-draw-pairs-2 : tie.Need-slice-aggregate-draw-pairs-2
 slice-aggregate-draw-pairs-2 c = let s = start (drawn (c .before .before .before)) in sym (length-take-le (s .args .n) (s .args .moods .now) (omega (arith, s .pre)))
@@ -59,10 +59,10 @@ returns c =
     let s = start d in
     let a = s .args in
     let h = g .greater .ensures in
-    λ ch S P Q near w none rows.
-    let v = seen (tests (a .size) (a .radius)) (a .cells .now) ch S [] (a .turned .now) (a .full .now) (a .ks .now) (a .moods .now) (a .points .now) (a .statuses .now) (a .blockers .now) (a .n) 0 w in
+    λ ch S P Q at w none rows.
+    let v = seen (tests (a .size) (a .radius)) (a .cells .now) ch S [] (a .confirmed .now) (a .full .now) (a .present .now) (a .moods .now) (a .points .now) (a .statuses .now) (a .blockers .now) (a .n) 0 w in
     record {
-      drawn = d .draw-points .ensures ch S [] near w;
+      drawn = d .draw-points .ensures ch S [] at w;
       filled = p .draw-pairs .ensures ch S P Q v (omega (arith, w .number, h .0)) (none-pairs P none) (none-named P none)
           (rows-more (a .before) Q (a .pairs .now) rows (g .greater .result) (h .1) (h .2 64 (s .pre .0) (s .pre .1)));
     }

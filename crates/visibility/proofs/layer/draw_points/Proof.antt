@@ -15,10 +15,10 @@ use Rattle.visibility.proofs.layer.draw_points.Tie as tie
 abbrev start : tie.After-slice-known3 → tie.Start
 start p = p .before .before .before .before .before .before .before .before
 
-abbrev first : tie.After-bits2 → tie.After-slice-known3
+abbrev first : tie.After-new-statuses2 → tie.After-slice-known3
 first p = p .before .before .before .before
 
-abbrev second : tie.After-blocks3 → tie.After-bits2
+abbrev second : tie.After-new-blockers2 → tie.After-new-statuses2
 second p = p .before .before .before .before .before .before
 
 fits : (n : ℕ) (l : List ℕ) → n ≤ length l → n ≡ length (take n l)
@@ -37,7 +37,7 @@ write-statuses-requires c κs =
     omega (arith, s .pre, e)
 
 slice-aggregate-block-points : tie.Need-slice-aggregate-block-points
-slice-aggregate-block-points c = let s = start (first (c .before)) in fits (s .args .n) (s .args .ks .now) (omega (arith, s .pre))
+slice-aggregate-block-points c = let s = start (first (c .before)) in fits (s .args .n) (s .args .present .now) (omega (arith, s .pre))
 
 slice-aggregate-block-points-2 : tie.Need-slice-aggregate-block-points-2
 slice-aggregate-block-points-2 c = let s = start (first (c .before .before)) in fits (s .args .n) (s .args .moods .now) (omega (arith, s .pre))
@@ -87,12 +87,12 @@ returns c =
     let b = l .before in
     let f = second l .before in
     let a = start (first (second l)) .args in
-    λ ch S B near d.
+    λ ch S B at d.
     let t = tests (a .size) (a .radius) in
-    let v = seen t (a .cells .now) ch S B (a .turned .now) (a .full .now) (a .ks .now) (a .moods .now) (a .points .now) (a .statuses .now) (a .blockers .now) (a .n) (a .count) d in
-    drawn t (a .cells .now) ch S B (a .turned .now) (a .full .now) (a .ks .now) (a .moods .now) (a .points .now) (a .statuses .now) (a .blockers .now) (a .n) (a .count) d
+    let v = seen t (a .cells .now) ch S B (a .confirmed .now) (a .full .now) (a .present .now) (a .moods .now) (a .points .now) (a .statuses .now) (a .blockers .now) (a .n) (a .count) d in
+    drawn t (a .cells .now) ch S B (a .confirmed .now) (a .full .now) (a .present .now) (a .moods .now) (a .points .now) (a .statuses .now) (a .blockers .now) (a .n) (a .count) d
     (f .write-statuses .last .1 .0) (b .block-points .last .1 .1 .1 .1 .1 .1 .1 .1 .1 .0) (w0 .copy .last .1 .0) (w1 .copy-bytes .last .1 .0) (w2 .copy2 .last .1 .0)
-    (f .write-statuses .ensures) (b .block-points .ensures ch S B v near (d .blocks) (d .blocksNamed) (rw (length-replicate {A = ℕ} 64 0) (d .few)))
+    (f .write-statuses .ensures) (b .block-points .ensures ch S B v at (d .blocks) (d .blocksNamed) (rw (length-replicate {A = ℕ} 64 0) (d .few)))
     (w0 .copy .ensures) (w1 .copy-bytes .ensures) (w2 .copy2 .ensures)
 
 pub draw-points-spec : {M : Type 1} → statement M

@@ -3,8 +3,10 @@ use mathlib.Core.Path.{_≡_, sym, _∙_}
 use mathlib.Core.Bool.{false}
 use lib.Seq.{length-take-le}
 use borrow.Author.Needs.{needs}
+use Rattle.held.specs.Pairs.{pairPlaces}
+use Rattle.model.specs.Limits.{maxCells, maxPoints}
 use Rattle.model.specs.Refusal.{badSize, short}
-use Rattle.held.specs.Holds.{Tables}
+use Rattle.held.specs.Holds.{Tables, tablesOf}
 use Rattle.held.specs.Holds as tables
 use Rattle.held.proofs.RoomLaws.{Enough, long-enough}
 use Rattle.visibility.proofs.OpenLaws.{open-done, open-radius, open-refused, open-short, open-size}
@@ -35,7 +37,7 @@ fifth p = p .before .before .before .before
 
 -- the tables as they are lent, and what the tests say of them
 abbrev lent : tie.Start → Tables
-lent s = let a = s .args in record { cells = a .cells .now; points = a .points .now; statuses = a .statuses .now; blockers = a .blockers .now; pairs = a .pairs .now }
+lent s = let a = s .args in tablesOf (a .cells .now) (a .points .now) (a .statuses .now) (a .blockers .now) (a .pairs .now)
 
 judged : (p : tie.After-short-tables) → short (tables.needs (lent (start p))) ≡ p .short-tables .result
 judged p = sym (p .short-tables .ensures)
@@ -96,7 +98,7 @@ slice-relend-prefix-clear : tie.Need-slice-relend-prefix-clear
 slice-relend-prefix-clear c = room c .0
 
 slice-aggregate-clear : tie.Need-slice-aggregate-clear
-slice-aggregate-clear c = let p = c .before in sym (length-take-le 1024 (given p .cells) (room p .0))
+slice-aggregate-clear c = let p = c .before in sym (length-take-le maxCells (given p .cells) (room p .0))
 
 clear-requires : tie.Need-clear-requires
 clear-requires c κs = search needs
@@ -105,7 +107,7 @@ slice-relend-prefix-clear-2 : tie.Need-slice-relend-prefix-clear-2
 slice-relend-prefix-clear-2 c = room (first c) .1 .0
 
 slice-aggregate-clear-2 : tie.Need-slice-aggregate-clear-2
-slice-aggregate-clear-2 c = let p = first (c .before) in sym (length-take-le 64 (given p .points) (room p .1 .0))
+slice-aggregate-clear-2 c = let p = first (c .before) in sym (length-take-le maxPoints (given p .points) (room p .1 .0))
 
 clear-requires-2 : tie.Need-clear-requires-2
 clear-requires-2 c κs = search needs
@@ -114,7 +116,7 @@ slice-relend-prefix-clear-bytes : tie.Need-slice-relend-prefix-clear-bytes
 slice-relend-prefix-clear-bytes c = room (first (second c)) .1 .1 .0
 
 slice-aggregate-clear-bytes : tie.Need-slice-aggregate-clear-bytes
-slice-aggregate-clear-bytes c = let p = first (second (c .before)) in sym (length-take-le 64 (given p .statuses) (room p .1 .1 .0))
+slice-aggregate-clear-bytes c = let p = first (second (c .before)) in sym (length-take-le maxPoints (given p .statuses) (room p .1 .1 .0))
 
 clear-bytes-requires : tie.Need-clear-bytes-requires
 clear-bytes-requires c κs = search needs
@@ -123,7 +125,7 @@ slice-relend-prefix-clear-3 : tie.Need-slice-relend-prefix-clear-3
 slice-relend-prefix-clear-3 c = room (first (second (third c))) .1 .1 .1 .0
 
 slice-aggregate-clear-3 : tie.Need-slice-aggregate-clear-3
-slice-aggregate-clear-3 c = let p = first (second (third (c .before))) in sym (length-take-le 64 (given p .blockers) (room p .1 .1 .1 .0))
+slice-aggregate-clear-3 c = let p = first (second (third (c .before))) in sym (length-take-le maxPoints (given p .blockers) (room p .1 .1 .1 .0))
 
 clear-requires-3 : tie.Need-clear-requires-3
 clear-requires-3 c κs = search needs
@@ -132,7 +134,7 @@ slice-relend-prefix-clear-4 : tie.Need-slice-relend-prefix-clear-4
 slice-relend-prefix-clear-4 c = room (first (second (third (fourth c)))) .1 .1 .1 .1 .0
 
 slice-aggregate-clear-4 : tie.Need-slice-aggregate-clear-4
-slice-aggregate-clear-4 c = let p = first (second (third (fourth (c .before)))) in sym (length-take-le 4096 (given p .pairs) (room p .1 .1 .1 .1 .0))
+slice-aggregate-clear-4 c = let p = first (second (third (fourth (c .before)))) in sym (length-take-le pairPlaces (given p .pairs) (room p .1 .1 .1 .1 .0))
 
 clear-requires-4 : tie.Need-clear-requires-4
 clear-requires-4 c κs = search needs

@@ -5,8 +5,9 @@ use mathlib.Core.Path.{_≡_, refl, sym, _∙_}
 use lib.ListN.{length, take}
 use lib.Seq.{length-take-le}
 use borrow.Author.Needs.{needs}
+use Rattle.model.specs.Limits.{maxCells, maxPoints}
 use Rattle.model.specs.Refusal.{short}
-use Rattle.held.specs.Holds.{Tables}
+use Rattle.held.specs.Holds.{Tables, tablesOf}
 use Rattle.held.specs.Holds as tables
 use Rattle.visibility.specs.Radius.{refuseRadius}
 use Rattle.visibility.proofs.RebuildLaws.{rebuild-cells, rebuild-done, rebuild-input, rebuild-packed, rebuild-points, rebuild-room}
@@ -31,7 +32,7 @@ marked p = p .before .before .before .before
 
 -- the tables as they are lent, and what the tests say of them
 abbrev lent : tie.Start → Tables
-lent s = let a = s .args in record { cells = a .cells .now; points = a .points .now; statuses = a .statuses .now; blockers = a .blockers .now; pairs = a .pairs .now }
+lent s = let a = s .args in tablesOf (a .cells .now) (a .points .now) (a .statuses .now) (a .blockers .now) (a .pairs .now)
 
 number : (p : tie.After-judge) → let s = start p in p .judge .result ≡ refuseRadius (short (tables.needs (lent s))) (s .args .map) (s .args .radius)
 number p = rw (← p .before .short-tables .ensures) (p .judge .ensures)
@@ -39,7 +40,7 @@ number p = rw (← p .before .short-tables .ensures) (p .judge .ensures)
 passes : (p : tie.Else1) → let s = start (p .before) in refuseRadius (short (tables.needs (lent s))) (s .args .map) (s .args .radius) ≡ 0
 passes p = sym (number (p .before)) ∙ p .if1 .left
 
-few : (p : tie.Else1) → start (p .before) .args .map .cells ≤ 1024
+few : (p : tie.Else1) → start (p .before) .args .map .cells ≤ maxCells
 few p = let s = start (p .before) in rebuild-cells (s .args .map) (s .args .radius) (lent s) (passes p)
 
 -- the used cells, and the corners found among them
@@ -49,14 +50,14 @@ used p =
     let r = rebuild-room (s .args .map) (s .args .radius) (lent s) (passes p) .0 in
     length-take-le (s .args .map .cells) (s .args .cells .now) (omega (arith, few p, r))
 
-found : (p : tie.After-corner-cells) → p .corner-cells .result ≤ 1024
+found : (p : tie.After-corner-cells) → p .corner-cells .result ≤ maxCells
 found p = let q = entry p in omega (arith, p .corner-cells .ensures .3, used q, few q)
 
 inCorners : (p : tie.After-corner-cells) → p .corner-cells .result ≤ length (p .corner-cells .last .1 .0)
-inCorners p = let e : length (p .corner-cells .last .1 .0) ≡ 1024 = p .corner-cells .kept .1 .0 in omega (arith, found p, e)
+inCorners p = let e : length (p .corner-cells .last .1 .0) ≡ maxCells = p .corner-cells .kept .1 .0 in omega (arith, found p, e)
 
-inBits : (p : tie.After-corner-cells) → p .corner-cells .result ≤ length (p .corner-cells .last .1 .1 .0)
-inBits p = let e : length (p .corner-cells .last .1 .1 .0) ≡ 1024 = p .corner-cells .kept .1 .1 .0 in omega (arith, found p, e)
+inAltered : (p : tie.After-corner-cells) → p .corner-cells .result ≤ length (p .corner-cells .last .1 .1 .0)
+inAltered p = let e : length (p .corner-cells .last .1 .1 .0) ≡ maxCells = p .corner-cells .kept .1 .1 .0 in omega (arith, found p, e)
 
 short-tables-requires : tie.Need-short-tables-requires
 short-tables-requires c κs = search needs
@@ -106,11 +107,11 @@ array-share-prefix-corners c = inCorners (c .before .before .before .before .bef
 slice-aggregate-mark-points-3 : tie.Need-slice-aggregate-mark-points-3
 slice-aggregate-mark-points-3 c = let p = c .before .before .before .before .before .before in sym (length-take-le (p .corner-cells .result) (p .corner-cells .last .1 .0) (inCorners p))
 
-array-share-prefix-bits : tie.Need-array-share-prefix-bits
-array-share-prefix-bits c = inBits (c .before .before .before .before .before .before)
+array-share-prefix-altered : tie.Need-array-share-prefix-altered
+array-share-prefix-altered c = inAltered (c .before .before .before .before .before .before)
 
 slice-aggregate-mark-points-4 : tie.Need-slice-aggregate-mark-points-4
-slice-aggregate-mark-points-4 c = let p = c .before .before .before .before .before .before .before in sym (length-take-le (p .corner-cells .result) (p .corner-cells .last .1 .1 .0) (inBits p))
+slice-aggregate-mark-points-4 c = let p = c .before .before .before .before .before .before .before in sym (length-take-le (p .corner-cells .result) (p .corner-cells .last .1 .1 .0) (inAltered p))
 
 slice-aggregate-mark-points-5 : tie.Need-slice-aggregate-mark-points-5
 slice-aggregate-mark-points-5 c = search needs
@@ -149,8 +150,8 @@ array-share-prefix-corners-2 c = search needs
 slice-aggregate-draw-afresh-2 : tie.Need-slice-aggregate-draw-afresh-2
 slice-aggregate-draw-afresh-2 c = search needs
 
-array-share-prefix-bits-2 : tie.Need-array-share-prefix-bits-2
-array-share-prefix-bits-2 c = search needs
+array-share-prefix-altered-2 : tie.Need-array-share-prefix-altered-2
+array-share-prefix-altered-2 c = search needs
 
 slice-aggregate-draw-afresh-3 : tie.Need-slice-aggregate-draw-afresh-3
 slice-aggregate-draw-afresh-3 c = search needs
@@ -169,8 +170,8 @@ draw-afresh-requires c κs =
     let s = start (e .before) in
     let list = m .mark-points .last .1 .1 .1 .1 .1 in
     let kept = m .mark-points .kept .1 .1 .1 .1 .1 in
-    let keys : length (list .0) ≡ 64 = kept .0 in
-    let moods : length (list .1 .0) ≡ 64 = kept .1 .0 in (
+    let keys : length (list .0) ≡ maxPoints = kept .0 in
+    let moods : length (list .1 .0) ≡ maxPoints = kept .1 .0 in (
       n .before .if2 .left,
       rebuild-points (s .args .map) (s .args .radius) (lent s) (passes e),
       omega (arith, keys),
@@ -199,7 +200,7 @@ returns-3 c =
     let s = start (entry k .before) in
     let z = d .draw-afresh .last .1 .1 .1 .1 .1 .1 .1 .1 .1 .1 in
     rebuild-done (s .args .map) (s .args .radius) (lent s) (passes (entry k)) (k .corner-cells .ensures .0) (shifted m .shift-of .ensures) (m .mark-points .ensures)
-    (record { cells = s .args .cells .now; points = z .0; statuses = z .1 .0; blockers = z .1 .1 .0; pairs = z .1 .1 .1 .0 }) (n .reach-of .result) refl (n .before .if2 .left) (n .reach-of .ensures) (d .draw-afresh .ensures)
+    (tablesOf (s .args .cells .now) (z .0) (z .1 .0) (z .1 .1 .0) (z .1 .1 .1 .0)) (n .reach-of .result) refl (n .before .if2 .left) (n .reach-of .ensures) (d .draw-afresh .ensures)
 
 pub change-radius-spec : {M : Type 1} → statement M
 change-radius-spec =
@@ -220,7 +221,7 @@ change-radius-spec =
     slice-aggregate-mark-points-2
     array-share-prefix-corners
     slice-aggregate-mark-points-3
-    array-share-prefix-bits
+    array-share-prefix-altered
     slice-aggregate-mark-points-4
     slice-aggregate-mark-points-5
     slice-aggregate-mark-points-6
@@ -233,7 +234,7 @@ change-radius-spec =
     slice-aggregate-draw-afresh
     array-share-prefix-corners-2
     slice-aggregate-draw-afresh-2
-    array-share-prefix-bits-2
+    array-share-prefix-altered-2
     slice-aggregate-draw-afresh-3
     slice-aggregate-draw-afresh-4
     slice-aggregate-draw-afresh-5

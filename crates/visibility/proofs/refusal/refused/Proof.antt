@@ -1,4 +1,4 @@
--- `map::refused` is the number, and zeros. Assumes nothing.
+-- `refusal::refused` is the number, and zeros. Assumes nothing.
 use mathlib.Core.Path.{refl}
 use borrow.Author.Needs.{needs}
 use Rattle.visibility.proofs.refusal.refused.Statement.{statement}
