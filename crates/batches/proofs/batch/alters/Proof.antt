@@ -5,16 +5,10 @@ use Rattle.batches.proofs.PickedLaws.{alters-full, alters-free}
 use Rattle.batches.proofs.batch.alters.Statement.{statement}
 use Rattle.batches.proofs.batch.alters.Tie as tie
 
-contains-requires : tie.Need-contains-requires
-contains-requires c κs = search needs
-
 returns : tie.Need-returns
 returns c =
     let s = c .before .before .before .args in
     λ a. rw (c .contains .ensures a, c .before .if1 .taken) (alters-full (has (s .k) (s .cells .now)))
-
-contains-requires-2 : tie.Need-contains-requires-2
-contains-requires-2 c κs = search needs
 
 returns-2 : tie.Need-returns-2
 returns-2 c =
@@ -22,4 +16,4 @@ returns-2 c =
     λ a. rw (c .contains2 .ensures a, c .before .if1 .left) (alters-free (has (s .k) (s .cells .now)))
 
 pub alters-spec : {M : Type 1} → statement M
-alters-spec = tie.close (tie.spec contains-requires returns contains-requires-2 returns-2)
+alters-spec = tie.close (tie.spec (λ c κs. search needs) returns (λ c κs. search needs) returns-2)

@@ -48,42 +48,12 @@ returns c =
 loop-holds : tie.Need-loop-holds Inv-loop μ-loop
 loop-holds c = let a = c .before .before .before .before .before .args in listing-start (a .cells .now) (a .batch .now) (a .out .now) (a .full .now)
 
-add-loop : tie.Need-add-loop Inv-loop μ-loop
-add-loop c = search needs
-
-key-at-requires : tie.Need-key-at-requires Inv-loop μ-loop
-key-at-requires c κs = search needs
-
-full-at-requires : tie.Need-full-at-requires Inv-loop μ-loop
-full-at-requires c κs = search needs
-
-alters-requires : tie.Need-alters-requires Inv-loop μ-loop
-alters-requires c κs = search needs
-
-mul-out : tie.Need-mul-out Inv-loop μ-loop
-mul-out c = search needs
-
-slice-write-out : tie.Need-slice-write-out Inv-loop μ-loop
-slice-write-out c = search needs
-
-flag-requires : tie.Need-flag-requires Inv-loop μ-loop
-flag-requires c κs = search needs
-
 slice-write-full : tie.Need-slice-write-full Inv-loop μ-loop
 slice-write-full c =
     let l = c .before .before .before .before .before .before in
     let a = l .before .before .before .before .before .before .args in
     let e : length (l .loop .full) ≡ length (a .full .now) = l .loop .inv .numbers in
     omega (arith, room (l .before))
-
-add-n : tie.Need-add-n Inv-loop μ-loop
-add-n c = search needs
-
-add-i : tie.Need-add-i Inv-loop μ-loop
-add-i c = search needs
-
-loop-less : tie.Need-loop-less Inv-loop μ-loop
-loop-less c = search needs
 
 loop-again : tie.Need-loop-again Inv-loop μ-loop
 loop-again c =
@@ -121,17 +91,17 @@ confirm-spec =
     μ-loop
     returns
     loop-holds
-    add-loop
-    key-at-requires
-    full-at-requires
-    alters-requires
-    mul-out
-    slice-write-out
-    flag-requires
+    (λ c. search needs)
+    (λ c κs. search needs)
+    (λ c κs. search needs)
+    (λ c κs. search needs)
+    (λ c. search needs)
+    (λ c. search needs)
+    (λ c κs. search needs)
     slice-write-full
-    add-n
-    add-i
-    loop-less
+    (λ c. search needs)
+    (λ c. search needs)
+    (λ c. search needs)
     loop-again
     same-length
     same-length-2

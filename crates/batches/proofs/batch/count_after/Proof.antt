@@ -31,30 +31,6 @@ looked c =
 loop-holds : tie.Need-loop-holds Inv-loop μ-loop
 loop-holds c = let a = c .before .args in counted-start (a .cells .now) (a .batch .now)
 
-add-loop : tie.Need-add-loop Inv-loop μ-loop
-add-loop c = search needs
-
-full-at-requires : tie.Need-full-at-requires Inv-loop μ-loop
-full-at-requires c κs = search needs
-
-key-at-requires : tie.Need-key-at-requires Inv-loop μ-loop
-key-at-requires c κs = search needs
-
-alters-requires : tie.Need-alters-requires Inv-loop μ-loop
-alters-requires c κs = search needs
-
-add-more : tie.Need-add-more Inv-loop μ-loop
-add-more c = search needs
-
-add-less : tie.Need-add-less Inv-loop μ-loop
-add-less c = search needs
-
-add-i : tie.Need-add-i Inv-loop μ-loop
-add-i c = search needs
-
-loop-less : tie.Need-loop-less Inv-loop μ-loop
-loop-less c = search needs
-
 loop-again : tie.Need-loop-again Inv-loop μ-loop
 loop-again c =
     let l = c .before .before .before .before .before in
@@ -85,14 +61,14 @@ count-after-spec =
     Inv-loop
     μ-loop
     loop-holds
-    add-loop
-    full-at-requires
-    key-at-requires
-    alters-requires
-    add-more
-    add-less
-    add-i
-    loop-less
+    (λ c. search needs)
+    (λ c κs. search needs)
+    (λ c κs. search needs)
+    (λ c κs. search needs)
+    (λ c. search needs)
+    (λ c. search needs)
+    (λ c. search needs)
+    (λ c. search needs)
     loop-again
     returns
     returns-2)

@@ -13,9 +13,6 @@ Inv-loop cells confirmed out₀ statuses₀ room n₀ i₀ out statuses n i = So
 abbrev μ-loop : tie.MeasureT-loop
 μ-loop cells confirmed out₀ statuses₀ room n₀ i₀ out statuses n i = length confirmed - i
 
-mul-room : tie.Need-mul-room Inv-loop μ-loop
-mul-room c = omega arith
-
 returns : tie.Need-returns Inv-loop μ-loop
 returns c =
     let few = c .if1 .taken in (
@@ -39,15 +36,6 @@ loop-holds c =
     let a = c .before .before .before .before .before .before .args in
     sofar-none (a .cells .now) (a .confirmed .now) (a .out .now) (a .statuses .now)
 
-put-around-requires : tie.Need-put-around-requires Inv-loop μ-loop
-put-around-requires c κs = omega arith
-
-add-i : tie.Need-add-i Inv-loop μ-loop
-add-i c = omega arith
-
-loop-less : tie.Need-loop-less Inv-loop μ-loop
-loop-less c = omega arith
-
 loop-again : tie.Need-loop-again Inv-loop μ-loop
 loop-again c =
     let p = c .before .before .before .before in
@@ -57,12 +45,6 @@ loop-again c =
     let a = o .before .before .before .before .before .before .args in
     let r = p .put-around in
     sofar-next (a .cells .now) (a .confirmed .now) (a .out .now) (l .out) (r .last .1 .1 .1 .0) (a .statuses .now) (l .statuses) (r .last .1 .1 .1 .1 .0) (l .n) (l .i) (r .result) (t .loop-test .taken) (o .before .if1 .left) (o .if2 .left) (l .inv) (r .kept .1 .1 .1 .0) (r .kept .1 .1 .1 .1 .0) (r .ensures .0) (r .ensures .1)
-
-same-length : tie.Need-same-length Inv-loop μ-loop
-same-length c = omega arith
-
-same-length-2 : tie.Need-same-length-2 Inv-loop μ-loop
-same-length-2 c = omega arith
 
 returns-3 : tie.Need-returns-3 Inv-loop μ-loop
 returns-3 c =
@@ -81,14 +63,14 @@ corner-changes-spec =
     (tie.spec
     Inv-loop
     μ-loop
-    mul-room
+    (λ c. omega arith)
     returns
     returns-2
     loop-holds
-    put-around-requires
-    add-i
-    loop-less
+    (λ c κs. omega arith)
+    (λ c. omega arith)
+    (λ c. omega arith)
     loop-again
-    same-length
-    same-length-2
+    (λ c. omega arith)
+    (λ c. omega arith)
     returns-3)

@@ -10,12 +10,6 @@ use borrow.Author.Needs.{needs}
 use Rattle.corner.proofs.changes.put_around.Statement.{statement}
 use Rattle.corner.proofs.changes.put_around.Tie as tie
 
-mul-e : tie.Need-mul-e
-mul-e c = search needs
-
-shared-slice-read-e : tie.Need-shared-slice-read-e
-shared-slice-read-e c = search needs
-
 returns : tie.Need-returns
 returns c =
     let a = c .before .before .before .before .before .before .args in
@@ -28,35 +22,11 @@ returns-2 c =
     let inside = c .before .before .before .before .before .before .before .pre .0 in
     (omega arith, λ C g. let i = given-inner (a .cells .now) (a .confirmed .now) C (a .i) g inside in absurd (omega (arith, i .1, c .if2 .taken)))
 
-window-requires : tie.Need-window-requires
-window-requires c κs = search needs
-
-window-requires-2 : tie.Need-window-requires-2
-window-requires-2 c κs = search needs
-
-corners-of-requires : tie.Need-corners-of-requires
-corners-of-requires c κs = search needs
-
 corners-of-requires-2 : tie.Need-corners-of-requires-2
 corners-of-requires-2 c κs =
     let v = c .before .before .window in
     let w = c .before .window2 in
     xor-lt 25 (v .result) (w .result) (v .ensures .0) (w .ensures .0)
-
-beside-requires : tie.Need-beside-requires
-beside-requires c κs = search needs
-
-differing-but-requires : tie.Need-differing-but-requires
-differing-but-requires c κs = search needs
-
-put-nine-requires : tie.Need-put-nine-requires
-put-nine-requires c κs = search needs
-
-same-length : tie.Need-same-length
-same-length c = search needs
-
-same-length-2 : tie.Need-same-length-2
-same-length-2 c = search needs
 
 returns-3 : tie.Need-returns-3
 returns-3 c =
@@ -83,17 +53,17 @@ pub put-around-spec : {M : Type 1} → statement M
 put-around-spec =
     tie.close
     (tie.spec
-    mul-e
-    shared-slice-read-e
+    (λ c. search needs)
+    (λ c. search needs)
     returns
     returns-2
-    window-requires
-    window-requires-2
-    corners-of-requires
+    (λ c κs. search needs)
+    (λ c κs. search needs)
+    (λ c κs. search needs)
     corners-of-requires-2
-    beside-requires
-    differing-but-requires
-    put-nine-requires
-    same-length
-    same-length-2
+    (λ c κs. search needs)
+    (λ c κs. search needs)
+    (λ c κs. search needs)
+    (λ c. search needs)
+    (λ c. search needs)
     returns-3)

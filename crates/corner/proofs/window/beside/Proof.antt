@@ -8,9 +8,6 @@ use Rattle.corner.specs.Window.{beside}
 use Rattle.corner.proofs.window.beside.Statement.{statement}
 use Rattle.corner.proofs.window.beside.Tie as tie
 
-mul-v : tie.Need-mul-v
-mul-v c = search needs
-
 mul-result : tie.Need-mul-result
 mul-result c =
     let n = c .args .n in
@@ -23,4 +20,4 @@ unfolding beside
 returns c = refl
 
 pub beside-spec : {M : Type 1} → statement M
-beside-spec = tie.close (tie.spec mul-v mul-result returns)
+beside-spec = tie.close (tie.spec (λ c. search needs) mul-result returns)

@@ -46,15 +46,6 @@ long c =
 small : (c : tie.Else1) → start (c .before .before) .args .floor .cells ≤ maxCells
 small c = ltb-false maxCells (start (c .before .before) .args .floor .cells) (passed c .crowd)
 
-is-short-requires : tie.Need-is-short-requires
-is-short-requires c κs = search needs
-
-judge-requires : tie.Need-judge-requires
-judge-requires c κs = search needs
-
-refused-requires : tie.Need-refused-requires
-refused-requires c κs = search needs
-
 returns : tie.Need-returns
 returns c =
     let j = c .before .before in
@@ -75,15 +66,6 @@ slice-aggregate-count-after c =
     let s = small e in
     sym (length-take-le (a .floor .cells) (a .cells .now) (omega arith))
 
-count-after-requires : tie.Need-count-after-requires
-count-after-requires c κs = search needs
-
-refused-requires-2 : tie.Need-refused-requires-2
-refused-requires-2 c κs = search needs
-
-same-length : tie.Need-same-length
-same-length c = search needs
-
 returns-2 : tie.Need-returns-2
 returns-2 c =
     let k = c .before .before in
@@ -98,21 +80,6 @@ apply-requires c κs =
     let f = passed e .few in
     (small e, l .0, omega (arith, f, l .1), omega (arith, f, l .2))
 
-same-length-2 : tie.Need-same-length-2
-same-length-2 c = search needs
-
-same-length-3 : tie.Need-same-length-3
-same-length-3 c = search needs
-
-same-length-4 : tie.Need-same-length-4
-same-length-4 c = search needs
-
-same-length-5 : tie.Need-same-length-5
-same-length-5 c = search needs
-
-same-length-6 : tie.Need-same-length-6
-same-length-6 c = search needs
-
 returns-3 : tie.Need-returns-3
 returns-3 c =
     let y = c .before .before .before .before .before .before .before .before .before .before in
@@ -126,20 +93,20 @@ pub change-cells-spec : {M : Type 1} → statement M
 change-cells-spec =
     tie.close
     (tie.spec
-    is-short-requires
-    judge-requires
-    refused-requires
+    (λ c κs. search needs)
+    (λ c κs. search needs)
+    (λ c κs. search needs)
     returns
     slice-reshare-prefix-count-after
     slice-aggregate-count-after
-    count-after-requires
-    refused-requires-2
-    same-length
+    (λ c κs. search needs)
+    (λ c κs. search needs)
+    (λ c. search needs)
     returns-2
     apply-requires
-    same-length-2
-    same-length-3
-    same-length-4
-    same-length-5
-    same-length-6
+    (λ c. search needs)
+    (λ c. search needs)
+    (λ c. search needs)
+    (λ c. search needs)
+    (λ c. search needs)
     returns-3)

@@ -19,24 +19,6 @@ loop-holds c =
     let a = c .before .before .before .args in
     gathered-none (a .candidates .now) (a .corners .now) (a .altered .now) (a .n) (a .shift)
 
-mul-put-corners : tie.Need-mul-put-corners Inv-loop μ-loop
-mul-put-corners c = omega arith
-
-shared-slice-read-put-corners : tie.Need-shared-slice-read-put-corners Inv-loop μ-loop
-shared-slice-read-put-corners c = omega arith
-
-shared-slice-read-put-corners-2 : tie.Need-shared-slice-read-put-corners-2 Inv-loop μ-loop
-shared-slice-read-put-corners-2 c = omega arith
-
-put-corners-requires : tie.Need-put-corners-requires Inv-loop μ-loop
-put-corners-requires c κs = omega arith
-
-add-i : tie.Need-add-i Inv-loop μ-loop
-add-i c = omega arith
-
-loop-less : tie.Need-loop-less Inv-loop μ-loop
-loop-less c = omega arith
-
 loop-again : tie.Need-loop-again Inv-loop μ-loop
 loop-again c =
     let r = c .before .before .put-corners in
@@ -73,12 +55,12 @@ gather-spec =
     Inv-loop
     μ-loop
     loop-holds
-    mul-put-corners
-    shared-slice-read-put-corners
-    shared-slice-read-put-corners-2
-    put-corners-requires
-    add-i
-    loop-less
+    (λ c. omega arith)
+    (λ c. omega arith)
+    (λ c. omega arith)
+    (λ c κs. omega arith)
+    (λ c. omega arith)
+    (λ c. omega arith)
     loop-again
     same-length
     returns

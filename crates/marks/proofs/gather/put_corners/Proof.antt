@@ -19,23 +19,8 @@ abbrev μ-loop : tie.MeasureT-loop
 loop-holds : tie.Need-loop-holds Inv-loop μ-loop
 loop-holds c = let a = c .before .args in put-none (a .candidates .now) (a .n) (a .k) (a .status) (a .shift)
 
-corner-at-requires : tie.Need-corner-at-requires Inv-loop μ-loop
-corner-at-requires c κs = tt
-
-get-requires : tie.Need-get-requires Inv-loop μ-loop
-get-requires c κs = tt
-
 shifted-requires : tie.Need-shifted-requires Inv-loop μ-loop
 shifted-requires c κs = c .before .before .before .before .before .before .before .pre
-
-insert-requires : tie.Need-insert-requires Inv-loop μ-loop
-insert-requires c κs = tt
-
-add-d : tie.Need-add-d Inv-loop μ-loop
-add-d c = omega arith
-
-loop-less : tie.Need-loop-less Inv-loop μ-loop
-loop-less c = omega arith
 
 loop-again : tie.Need-loop-again Inv-loop μ-loop
 loop-again c =
@@ -69,12 +54,12 @@ put-corners-spec =
     Inv-loop
     μ-loop
     loop-holds
-    corner-at-requires
-    get-requires
+    (λ c κs. tt)
+    (λ c κs. tt)
     shifted-requires
-    insert-requires
-    add-d
-    loop-less
+    (λ c κs. tt)
+    (λ c. omega arith)
+    (λ c. omega arith)
     loop-again
     same-length
     returns)

@@ -33,18 +33,6 @@ returns-2 c =
     let z = sizes (a .shift) ps changed (a .points .now) (a .statuses .now) (a .corners .now) (a .altered .now) M in
     absurd (⊎-elim (λ w. omega (arith, w .taken, z .3)) (λ w. omega (arith, ltb-true (length (a .altered .now)) (length (a .corners .now)) (w .1 .taken), z .4)) (c .if4 .came))
 
-slice-aggregate-copy : tie.Need-slice-aggregate-copy
-slice-aggregate-copy c = search needs
-
-copy-requires : tie.Need-copy-requires
-copy-requires c κs = search needs
-
-slice-aggregate-gather : tie.Need-slice-aggregate-gather
-slice-aggregate-gather c = search needs
-
-gather-requires : tie.Need-gather-requires
-gather-requires c κs = search needs
-
 returns-3 : tie.Need-returns-3
 returns-3 c =
     let g = c .before .before .gather in
@@ -52,9 +40,6 @@ returns-3 c =
     let a = begin (k .before .before) .args in
     λ ps changed M ro rt.
     gathered-many (a .shift) ps changed (a .points .now) (a .statuses .now) (a .corners .now) (a .altered .now) M (k .copy .last .1 .0) (g .last .0) (k .copy .ensures) (g .result) (g .ensures) (c .if6 .taken) (a .out .now) (a .told .now)
-
-array-share-prefix-candidates : tie.Need-array-share-prefix-candidates
-array-share-prefix-candidates c = search needs
 
 gathered-long : (c : tie.Else6) → let g = c .before .before .gather in length (take (g .result) (g .last .0)) ≡ g .result
 gathered-long c =
@@ -73,9 +58,6 @@ zeros-long c =
 slice-aggregate-mark-keys : tie.Need-slice-aggregate-mark-keys
 slice-aggregate-mark-keys c = sym (gathered-long (c .before))
 
-array-borrow-prefix-moods : tie.Need-array-borrow-prefix-moods
-array-borrow-prefix-moods c = search needs
-
 slice-aggregate-mark-keys-2 : tie.Need-slice-aggregate-mark-keys-2
 slice-aggregate-mark-keys-2 c = sym (zeros-long (c .before .before))
 
@@ -88,12 +70,6 @@ mark-keys-requires c κs =
     let t = o .before in
     let n = f .before in
     (t .before .if1 .left, ltb-false (length (a .statuses .now)) (length (a .points .now)) (o .if3 .left), ltb-false maxPoints (length (a .points .now)) (t .if2 .left), ltb-false (length (a .altered .now)) (length (a .corners .now)) (f .if5 .left), n .if4 .left, gathered-long e ∙ sym (zeros-long e))
-
-same-length : tie.Need-same-length
-same-length c = search needs
-
-same-length-2 : tie.Need-same-length-2
-same-length-2 c = search needs
 
 returns-4 : tie.Need-returns-4
 returns-4 c =
@@ -112,16 +88,16 @@ mark-points-spec =
     (tie.spec
     returns
     returns-2
-    slice-aggregate-copy
-    copy-requires
-    slice-aggregate-gather
-    gather-requires
+    (λ c. search needs)
+    (λ c κs. search needs)
+    (λ c. search needs)
+    (λ c κs. search needs)
     returns-3
-    array-share-prefix-candidates
+    (λ c. search needs)
     slice-aggregate-mark-keys
-    array-borrow-prefix-moods
+    (λ c. search needs)
     slice-aggregate-mark-keys-2
     mark-keys-requires
-    same-length
-    same-length-2
+    (λ c. search needs)
+    (λ c. search needs)
     returns-4)

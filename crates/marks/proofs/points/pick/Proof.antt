@@ -19,12 +19,6 @@ loop-holds c =
     let a = c .args in
     picked-none (a .candidates .now) (a .moods .now) (a .out .now) (a .told .now)
 
-mul-if1 : tie.Need-mul-if1 Inv-loop μ-loop
-mul-if1 c = omega arith
-
-shared-slice-read-if1 : tie.Need-shared-slice-read-if1 Inv-loop μ-loop
-shared-slice-read-if1 c = omega arith
-
 -- there is room in both
 abbrev at : tie.Then3 Inv-loop μ-loop → tie.At-loop Inv-loop μ-loop
 at c = c .before .before .before .before .before
@@ -35,23 +29,11 @@ cells c = ltb-true (at c .loop .n) (length (at c .loop .out)) (c .before .if2 .t
 numbers : (c : tie.Then3 Inv-loop μ-loop) → at c .loop .n < length (at c .loop .told)
 numbers c = ltb-true (at c .loop .n) (length (at c .loop .told)) (c .if3 .taken)
 
-mul-out : tie.Need-mul-out Inv-loop μ-loop
-mul-out c = omega arith
-
-shared-slice-read-out : tie.Need-shared-slice-read-out Inv-loop μ-loop
-shared-slice-read-out c = omega arith
-
 mul-out-2 : tie.Need-mul-out-2 Inv-loop μ-loop
 mul-out-2 c = omega (arith, cells (c .before))
 
 slice-write-out : tie.Need-slice-write-out Inv-loop μ-loop
 slice-write-out c = omega (arith, cells (c .before))
-
-mul-told : tie.Need-mul-told Inv-loop μ-loop
-mul-told c = omega arith
-
-shared-slice-read-told : tie.Need-shared-slice-read-told Inv-loop μ-loop
-shared-slice-read-told c = omega arith
 
 mul-told-2 : tie.Need-mul-told-2 Inv-loop μ-loop
 mul-told-2 c = omega (arith, numbers (c .before .before))
@@ -61,12 +43,6 @@ slice-write-told c = omega (arith, numbers (c .before .before))
 
 add-n : tie.Need-add-n Inv-loop μ-loop
 add-n c = omega (arith, cells (c .before .before))
-
-add-i : tie.Need-add-i Inv-loop μ-loop
-add-i c = omega arith
-
-loop-less : tie.Need-loop-less Inv-loop μ-loop
-loop-less c = omega arith
 
 loop-again : tie.Need-loop-again Inv-loop μ-loop
 loop-again c =
@@ -104,19 +80,19 @@ pick-spec =
     Inv-loop
     μ-loop
     loop-holds
-    mul-if1
-    shared-slice-read-if1
-    mul-out
-    shared-slice-read-out
+    (λ c. omega arith)
+    (λ c. omega arith)
+    (λ c. omega arith)
+    (λ c. omega arith)
     mul-out-2
     slice-write-out
-    mul-told
-    shared-slice-read-told
+    (λ c. omega arith)
+    (λ c. omega arith)
     mul-told-2
     slice-write-told
     add-n
-    add-i
-    loop-less
+    (λ c. omega arith)
+    (λ c. omega arith)
     loop-again
     same-length
     same-length-2

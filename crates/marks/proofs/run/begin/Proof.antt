@@ -18,29 +18,8 @@ loop-holds c =
     let o = c .before .before .before .before in
     begun-none (o .args .points .now) (o .args .statuses .now) (o .args .candidates .now) (o .args .moods .now) (o .pre .2)
 
-mul-begin-at : tie.Need-mul-begin-at Inv-loop μ-loop
-mul-begin-at c = omega arith
-
-shared-slice-read-begin-at : tie.Need-shared-slice-read-begin-at Inv-loop μ-loop
-shared-slice-read-begin-at c = omega arith
-
-begin-at-requires : tie.Need-begin-at-requires Inv-loop μ-loop
-begin-at-requires c κs = omega arith
-
 word-requires : tie.Need-word-requires Inv-loop μ-loop
 word-requires c κs = let r = c .begin-at .ensures in (r .0, r .1, omega (arith, r .2))
-
-mul-moods : tie.Need-mul-moods Inv-loop μ-loop
-mul-moods c = omega arith
-
-slice-write-moods : tie.Need-slice-write-moods Inv-loop μ-loop
-slice-write-moods c = omega arith
-
-add-i : tie.Need-add-i Inv-loop μ-loop
-add-i c = omega arith
-
-loop-less : tie.Need-loop-less Inv-loop μ-loop
-loop-less c = omega arith
 
 loop-again : tie.Need-loop-again Inv-loop μ-loop
 loop-again c =
@@ -68,14 +47,14 @@ begin-spec =
     Inv-loop
     μ-loop
     loop-holds
-    mul-begin-at
-    shared-slice-read-begin-at
-    begin-at-requires
+    (λ c. omega arith)
+    (λ c. omega arith)
+    (λ c κs. omega arith)
     word-requires
-    mul-moods
-    slice-write-moods
-    add-i
-    loop-less
+    (λ c. omega arith)
+    (λ c. omega arith)
+    (λ c. omega arith)
+    (λ c. omega arith)
     loop-again
     same-length
     returns)

@@ -9,12 +9,6 @@ use borrow.Author.Needs.{needs}
 use Rattle.marks.proofs.run.begin_at.Statement.{statement}
 use Rattle.marks.proofs.run.begin_at.Tie as tie
 
-place-requires : tie.Need-place-requires
-place-requires c κs = search needs
-
-stands-at-requires : tie.Need-stands-at-requires
-stands-at-requires c κs = search needs
-
 inside : (c : tie.After-shared-slice-known3) → c .before .before .before .place .result < length (c .before .before .before .before .before .before .args .points .now)
 inside c =
     let p = c .before .before .before in
@@ -23,9 +17,6 @@ inside c =
 
 shared-slice-read-t7 : tie.Need-shared-slice-read-t7
 shared-slice-read-t7 c = omega (arith, inside c)
-
-add-t10 : tie.Need-add-t10
-add-t10 c = search needs
 
 returns : tie.Need-returns
 returns c =
@@ -50,4 +41,4 @@ returns-2 c =
 pub begin-at-spec : {M : Type 1} → statement M
 begin-at-spec =
     tie.close
-    (tie.spec place-requires stands-at-requires shared-slice-read-t7 add-t10 returns returns-2)
+    (tie.spec (λ c κs. search needs) (λ c κs. search needs) shared-slice-read-t7 (λ c. search needs) returns returns-2)

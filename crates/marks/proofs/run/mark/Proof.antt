@@ -15,15 +15,6 @@ use borrow.Author.Needs.{needs}
 use Rattle.marks.proofs.run.mark.Statement.{statement}
 use Rattle.marks.proofs.run.mark.Tie as tie
 
-place-requires : tie.Need-place-requires
-place-requires c κs = search needs
-
-stands-at-requires : tie.Need-stands-at-requires
-stands-at-requires c κs = search needs
-
-mul-of-word : tie.Need-mul-of-word
-mul-of-word c = search needs
-
 abbrev start : tie.Then1 → tie.Start
 start c = c .before .before .before .before .before
 
@@ -50,23 +41,11 @@ was c =
 slice-read-of-word : tie.Need-slice-read-of-word
 slice-read-of-word c = omega (arith, inside (c .before))
 
-of-word-requires : tie.Need-of-word-requires
-of-word-requires c κs = search needs
-
-marked-requires : tie.Need-marked-requires
-marked-requires c κs = search needs
-
 word-requires : tie.Need-word-requires
 word-requires c κs = let r = c .marked .ensures in (r .0, r .1, r .2)
 
-mul-moods : tie.Need-mul-moods
-mul-moods c = search needs
-
 slice-write-moods : tie.Need-slice-write-moods
 slice-write-moods c = omega (arith, inside (c .before .before .before .before .before .before))
-
-same-length : tie.Need-same-length
-same-length c = search needs
 
 returns : tie.Need-returns
 returns c =
@@ -98,16 +77,16 @@ pub mark-spec : {M : Type 1} → statement M
 mark-spec =
     tie.close
     (tie.spec
-    place-requires
-    stands-at-requires
-    mul-of-word
+    (λ c κs. search needs)
+    (λ c κs. search needs)
+    (λ c. search needs)
     slice-read-of-word
-    of-word-requires
-    marked-requires
+    (λ c κs. search needs)
+    (λ c κs. search needs)
     word-requires
-    mul-moods
+    (λ c. search needs)
     slice-write-moods
-    same-length
+    (λ c. search needs)
     returns
     returns-2
     returns-3)

@@ -17,27 +17,6 @@ loop-holds c =
     let a = c .before .before .before .before .args in
     made-none (a .candidates .now) (a .moods .now) (a .corners .now) (a .altered .now) (a .shift)
 
-mul-mark-corners : tie.Need-mul-mark-corners Inv-loop μ-loop
-mul-mark-corners c = omega arith
-
-shared-slice-read-mark-corners : tie.Need-shared-slice-read-mark-corners Inv-loop μ-loop
-shared-slice-read-mark-corners c = omega arith
-
-shared-slice-read-mark-corners-2 : tie.Need-shared-slice-read-mark-corners-2 Inv-loop μ-loop
-shared-slice-read-mark-corners-2 c = omega arith
-
-mul-mark-corners-2 : tie.Need-mul-mark-corners-2 Inv-loop μ-loop
-mul-mark-corners-2 c = omega arith
-
-mark-corners-requires : tie.Need-mark-corners-requires Inv-loop μ-loop
-mark-corners-requires c κs = omega arith
-
-add-i : tie.Need-add-i Inv-loop μ-loop
-add-i c = omega arith
-
-loop-less : tie.Need-loop-less Inv-loop μ-loop
-loop-less c = omega arith
-
 loop-again : tie.Need-loop-again Inv-loop μ-loop
 loop-again c =
     let r = c .before .before .mark-corners in
@@ -65,13 +44,13 @@ mark-all-spec =
     Inv-loop
     μ-loop
     loop-holds
-    mul-mark-corners
-    shared-slice-read-mark-corners
-    shared-slice-read-mark-corners-2
-    mul-mark-corners-2
-    mark-corners-requires
-    add-i
-    loop-less
+    (λ c. omega arith)
+    (λ c. omega arith)
+    (λ c. omega arith)
+    (λ c. omega arith)
+    (λ c κs. omega arith)
+    (λ c. omega arith)
+    (λ c. omega arith)
     loop-again
     same-length
     returns)

@@ -20,27 +20,6 @@ loop-holds c =
     let a = c .before .before .args in
     four-none (a .candidates .now) (a .moods .now) (a .k) (a .status) (a .shift) (a .n)
 
-corner-at-requires : tie.Need-corner-at-requires Inv-loop μ-loop
-corner-at-requires c κs = tt
-
-shifted-requires : tie.Need-shifted-requires Inv-loop μ-loop
-shifted-requires c κs = omega arith
-
-get-requires : tie.Need-get-requires Inv-loop μ-loop
-get-requires c κs = tt
-
-add-mark : tie.Need-add-mark Inv-loop μ-loop
-add-mark c = omega arith
-
-mark-requires : tie.Need-mark-requires Inv-loop μ-loop
-mark-requires c κs = omega arith
-
-add-d : tie.Need-add-d Inv-loop μ-loop
-add-d c = omega arith
-
-loop-less : tie.Need-loop-less Inv-loop μ-loop
-loop-less c = omega arith
-
 loop-again : tie.Need-loop-again Inv-loop μ-loop
 loop-again c =
     let r = c .before .before .mark in
@@ -71,13 +50,13 @@ mark-corners-spec =
     Inv-loop
     μ-loop
     loop-holds
-    corner-at-requires
-    shifted-requires
-    get-requires
-    add-mark
-    mark-requires
-    add-d
-    loop-less
+    (λ c κs. tt)
+    (λ c κs. omega arith)
+    (λ c κs. tt)
+    (λ c. omega arith)
+    (λ c κs. omega arith)
+    (λ c. omega arith)
+    (λ c. omega arith)
     loop-again
     same-length
     returns)

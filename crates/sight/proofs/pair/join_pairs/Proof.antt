@@ -30,9 +30,6 @@ returns-2 c = λ ch S P seeing pairs named space few s.
     let k = seeing-lengths (a .cells .now) ch S (a .confirmed .now) (a .full .now) (a .points .now) (a .moods .now) seeing in
     absurd (⊎-elim (λ t. omega (arith, t .taken)) (λ t. let h = ltb-true (length (a .out .now)) (64 * length (a .points .now)) (t .1 .taken) in omega arith) (c .if3 .came))
 
-new-requires : tie.Need-new-requires Inv-loop μ-loop
-new-requires c κs = search needs
-
 loop-holds : tie.Need-loop-holds Inv-loop μ-loop
 loop-holds c = rows-start _ _ _ _ _ _ _ _ _ _
 
@@ -90,7 +87,7 @@ join-pairs-spec =
     returns
     mul-if4
     returns-2
-    new-requires
+    (λ c κs. search needs)
     loop-holds
     join-row-requires
     add-i

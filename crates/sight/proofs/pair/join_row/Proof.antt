@@ -31,9 +31,6 @@ mul-of-word c = let k = asked (c .before) in omega arith
 shared-slice-read-of-word : tie.Need-shared-slice-read-of-word Inv-loop μ-loop
 shared-slice-read-of-word c = let k = asked (c .before .before) in omega arith
 
-of-word-requires : tie.Need-of-word-requires Inv-loop μ-loop
-of-word-requires c κs = search needs
-
 add-j : tie.Need-add-j Inv-loop μ-loop
 add-j c = let k = asked (c .before .before .before) in omega arith
 
@@ -58,9 +55,6 @@ mul-of-word-2 c = let k = inside c in omega arith
 
 shared-slice-read-of-word-2 : tie.Need-shared-slice-read-of-word-2 Inv-loop μ-loop
 shared-slice-read-of-word-2 c = let k = inside (c .before) in omega arith
-
-of-word-requires-2 : tie.Need-of-word-requires-2 Inv-loop μ-loop
-of-word-requires-2 c κs = search needs
 
 mul-pair-between : tie.Need-mul-pair-between Inv-loop μ-loop
 mul-pair-between c = let k = inside (c .before .before) in omega arith
@@ -141,12 +135,12 @@ join-row-spec =
     shared-slice-read-p
     mul-of-word
     shared-slice-read-of-word
-    of-word-requires
+    (λ c κs. search needs)
     add-j
     loop-holds
     mul-of-word-2
     shared-slice-read-of-word-2
-    of-word-requires-2
+    (λ c κs. search needs)
     mul-pair-between
     shared-slice-read-pair-between
     pair-between-requires

@@ -16,28 +16,16 @@ fore c v e = c .sees .ensures (v .bits) (ap (λ (m : Mood). m .status) e)
 back : (c : tie.After-sees2) → let a = c .before .before .before .before .before .before .before .args in (w : Standing) → a .was ≡ mood w → c .sees2 .result ≡ sees (a .q) (a .p) (w .bits)
 back c w e = c .sees2 .ensures (w .bits) (ap (λ (m : Mood). m .status) e)
 
-sees-requires : tie.Need-sees-requires
-sees-requires c κs = search needs
-
 returns : tie.Need-returns
 returns c = λ ch P w v order inside changes confirmedAre fullAre prepared pairs named e f x y.
     let a = c .before .before .before .before .before .before .args in
     between-hidden (a .size) (a .radius) (a .cells .now) ch P (a .p) w (a .q) v (sym (fore (c .before) v f) ∙ not-true _ (c .if1 .taken))
-
-sees-requires-2 : tie.Need-sees-requires-2
-sees-requires-2 c κs = search needs
 
 returns-2 : tie.Need-returns-2
 returns-2 c = λ ch P w v order inside changes confirmedAre fullAre prepared pairs named e f x y.
     let s = c .before .before in
     let a = s .before .before .before .before .before .before .args in
     between-hiding (a .size) (a .radius) (a .cells .now) ch P (a .p) w (a .q) v (sym (fore (s .before) v f) ∙ not-false _ (s .if1 .left)) (sym (back (c .before) w e) ∙ not-true _ (c .if2 .taken))
-
-start-pair-requires : tie.Need-start-pair-requires
-start-pair-requires c κs = search needs
-
-run-pair-requires : tie.Need-run-pair-requires
-run-pair-requires c κs = search needs
 
 returns-3 : tie.Need-returns-3
 returns-3 c = λ ch P w v order inside changes confirmedAre fullAre prepared pairs named e f x y.
@@ -63,11 +51,11 @@ pub pair-between-spec : {M : Type 1} → statement M
 pair-between-spec =
     tie.close
     (tie.spec
-    sees-requires
+    (λ c κs. search needs)
     returns
-    sees-requires-2
+    (λ c κs. search needs)
     returns-2
-    start-pair-requires
-    run-pair-requires
+    (λ c κs. search needs)
+    (λ c κs. search needs)
     returns-3
     returns-4)

@@ -28,38 +28,14 @@ returns c = λ ch o order inside changes confirmedAre fullAre prepared e n.
     running-end (running-start (a .size) (a .radius) (a .cells .now) (a .p) (a .q) (λ k. tests (a .size) (a .radius) .near k (a .p) (a .q)) (a .confirmed .now) (a .full .now) (a .start)) none ch o
     (record { order = order; inside = inside; changes = changes; confirmedAre = confirmedAre; fullAre = fullAre }) (λ k h. refl) e n
 
-centre-requires : tie.Need-centre-requires Inv-loop μ-loop
-centre-requires c κs = search needs
-
-centre-requires-2 : tie.Need-centre-requires-2 Inv-loop μ-loop
-centre-requires-2 c κs = search needs
-
-new-requires : tie.Need-new-requires Inv-loop μ-loop
-new-requires c κs = search needs
-
 loop-holds : tie.Need-loop-holds Inv-loop μ-loop
 loop-holds c = running-start _ _ _ _ _ _ _ _ _
 
 mul-c : tie.Need-mul-c Inv-loop μ-loop
 mul-c c = let k = long (c .before .before) in omega (arith, c .loop-test .taken)
 
-shared-slice-read-c : tie.Need-shared-slice-read-c Inv-loop μ-loop
-shared-slice-read-c c = search needs
-
-shared-slice-read-if2 : tie.Need-shared-slice-read-if2 Inv-loop μ-loop
-shared-slice-read-if2 c = search needs
-
-sweep-between-requires : tie.Need-sweep-between-requires Inv-loop μ-loop
-sweep-between-requires c κs = search needs
-
-passes-requires : tie.Need-passes-requires Inv-loop μ-loop
-passes-requires c κs = search needs
-
 add-i : tie.Need-add-i Inv-loop μ-loop
 add-i c = let l = c .before .before .before in let k = long (l .before .before) in omega (arith, l .loop-test .taken)
-
-loop-less : tie.Need-loop-less Inv-loop μ-loop
-loop-less c = search needs
 
 loop-again : tie.Need-loop-again Inv-loop μ-loop
 loop-again c =
@@ -89,16 +65,16 @@ run-pair-spec =
     Inv-loop
     μ-loop
     returns
-    centre-requires
-    centre-requires-2
-    new-requires
+    (λ c κs. search needs)
+    (λ c κs. search needs)
+    (λ c κs. search needs)
     loop-holds
     mul-c
-    shared-slice-read-c
-    shared-slice-read-if2
-    sweep-between-requires
-    passes-requires
+    (λ c. search needs)
+    (λ c. search needs)
+    (λ c κs. search needs)
+    (λ c κs. search needs)
     add-i
-    loop-less
+    (λ c. search needs)
     loop-again
     returns-2)

@@ -5,12 +5,6 @@ use Rattle.sight.proofs.NearLaws.{first-far, first-within}
 use Rattle.sight.proofs.within.within.Statement.{statement}
 use Rattle.sight.proofs.within.within.Tie as tie
 
-difference-requires : tie.Need-difference-requires
-difference-requires c κs = search needs
-
-difference-requires-2 : tie.Need-difference-requires-2
-difference-requires-2 c κs = search needs
-
 returns : tie.Need-returns
 returns c =
     let d = c .before .before in
@@ -24,4 +18,4 @@ returns-2 c =
     first-far (apart (col (s .a)) (col (s .b))) (apart (row (s .a)) (row (s .b))) (d .difference .result) (s .reach) (d .difference .ensures) (c .if1 .left)
 
 pub within-spec : {M : Type 1} → statement M
-within-spec = tie.close (tie.spec difference-requires difference-requires-2 returns returns-2)
+within-spec = tie.close (tie.spec (λ c κs. search needs) (λ c κs. search needs) returns returns-2)

@@ -30,14 +30,8 @@ used-inside c =
     let long = kept-long (cut c .commit .last .0) (p .args .cells .now) (p .pre .0) (cut c .commit .kept .0) in
     omega (arith, few, long)
 
-slice-relend-prefix-commit : tie.Need-slice-relend-prefix-commit
-slice-relend-prefix-commit c = search needs
-
 slice-aggregate-commit : tie.Need-slice-aggregate-commit
 slice-aggregate-commit c = let a = start (c .before) .args in sym (length-take-le maxCells (a .cells .now) (omega arith))
-
-commit-requires : tie.Need-commit-requires
-commit-requires c κs = search needs
 
 slice-reshare-prefix-redraw : tie.Need-slice-reshare-prefix-redraw
 slice-reshare-prefix-redraw c = used-inside c
@@ -46,48 +40,6 @@ slice-aggregate-redraw : tie.Need-slice-aggregate-redraw
 slice-aggregate-redraw c =
     let d = c .before in
     sym (length-take-le (d .if1 .used) (cut d .commit .last .0 ++ drop maxCells (start (cut d .before .before) .args .cells .now)) (used-inside d))
-
-redraw-requires : tie.Need-redraw-requires
-redraw-requires c κs = search needs
-
-copy-requires : tie.Need-copy-requires
-copy-requires c κs = search needs
-
-copy-bytes-requires : tie.Need-copy-bytes-requires
-copy-bytes-requires c κs = search needs
-
-copy-requires-2 : tie.Need-copy-requires-2
-copy-requires-2 c κs = search needs
-
-copy-bytes-requires-2 : tie.Need-copy-bytes-requires-2
-copy-bytes-requires-2 c κs = search needs
-
-same-length : tie.Need-same-length
-same-length c = search needs
-
-same-length-2 : tie.Need-same-length-2
-same-length-2 c = search needs
-
-same-length-3 : tie.Need-same-length-3
-same-length-3 c = search needs
-
-same-length-4 : tie.Need-same-length-4
-same-length-4 c = search needs
-
-same-length-5 : tie.Need-same-length-5
-same-length-5 c = search needs
-
-same-length-6 : tie.Need-same-length-6
-same-length-6 c = search needs
-
-same-length-7 : tie.Need-same-length-7
-same-length-7 c = search needs
-
-same-length-8 : tie.Need-same-length-8
-same-length-8 c = search needs
-
-same-length-9 : tie.Need-same-length-9
-same-length-9 c = search needs
 
 returns : tie.Need-returns
 returns c =
@@ -113,23 +65,23 @@ pub finish-spec : {M : Type 1} → statement M
 finish-spec =
     tie.close
     (tie.spec
-    slice-relend-prefix-commit
+    (λ c. search needs)
     slice-aggregate-commit
-    commit-requires
+    (λ c κs. search needs)
     slice-reshare-prefix-redraw
     slice-aggregate-redraw
-    redraw-requires
-    copy-requires
-    copy-bytes-requires
-    copy-requires-2
-    copy-bytes-requires-2
-    same-length
-    same-length-2
-    same-length-3
-    same-length-4
-    same-length-5
-    same-length-6
-    same-length-7
-    same-length-8
-    same-length-9
+    (λ c κs. search needs)
+    (λ c κs. search needs)
+    (λ c κs. search needs)
+    (λ c κs. search needs)
+    (λ c κs. search needs)
+    (λ c. search needs)
+    (λ c. search needs)
+    (λ c. search needs)
+    (λ c. search needs)
+    (λ c. search needs)
+    (λ c. search needs)
+    (λ c. search needs)
+    (λ c. search needs)
+    (λ c. search needs)
     returns)

@@ -42,18 +42,6 @@ work-out-requires c κs =
     let w = s .pre in
     (le-trans (w .0) (w .1), le-trans (w .2) (w .3), le-trans (w .2) (w .4), w .6, w .7, w .8, refl {a = replicate {A = ℕ} maxPoints 0}, refl {a = replicate {A = ℕ} maxPoints 0})
 
-refused-requires : tie.Need-refused-requires
-refused-requires c κs = tt
-
-same-length : tie.Need-same-length
-same-length c = refl
-
-same-length-2 : tie.Need-same-length-2
-same-length-2 c = refl
-
-same-length-3 : tie.Need-same-length-3
-same-length-3 c = refl
-
 same-length-4 : tie.Need-same-length-4
 same-length-4 c = planning (c .before .before) .work-out .kept .1 .1 .1 .1 .1 .1 .1 .0
 
@@ -105,38 +93,11 @@ finish-requires c κs =
     let w = start p .pre in
     (w .1, fitting e .if1 .left, reaches (l .0) (q .4) (le-refl maxPoints), reaches (l .1 .0) (q .5) (le-refl maxPoints), le-trans (w .2) (w .5))
 
-same-length-6 : tie.Need-same-length-6
-same-length-6 c = ended c .finish .kept .1 .0
-
-same-length-7 : tie.Need-same-length-7
-same-length-7 c = ended c .finish .kept .1 .1 .0
-
-same-length-8 : tie.Need-same-length-8
-same-length-8 c = ended c .finish .kept .1 .1 .1 .0
-
-same-length-9 : tie.Need-same-length-9
-same-length-9 c = ended c .finish .kept .1 .1 .1 .1 .0
-
-same-length-10 : tie.Need-same-length-10
-same-length-10 c = ended c .finish .kept .1 .1 .1 .1 .1 .0
-
 same-length-11 : tie.Need-same-length-11
 same-length-11 c = planned (handing (ended c .before)) .work-out .kept .1 .1 .1 .1 .1 .1 .1 .0
 
 same-length-12 : tie.Need-same-length-12
 same-length-12 c = planned (handing (ended c .before)) .work-out .kept .1 .1 .1 .1 .1 .1 .1 .1 .0
-
-same-length-13 : tie.Need-same-length-13
-same-length-13 c = ended c .finish .kept .1 .1 .1 .1 .1 .1 .1 .1 .1 .1 .1 .1 .1 .1 .0
-
-same-length-14 : tie.Need-same-length-14
-same-length-14 c = ended c .finish .kept .1 .1 .1 .1 .1 .1 .1 .1 .1 .1 .1 .1 .1 .1 .1 .0
-
-same-length-15 : tie.Need-same-length-15
-same-length-15 c = ended c .finish .kept .1 .1 .1 .1 .1 .1 .1 .1 .1 .1 .1 .1 .1 .1 .1 .1 .0
-
-same-length-16 : tie.Need-same-length-16
-same-length-16 c = ended c .finish .kept .1 .1 .1 .1 .1 .1 .1 .1 .1 .1 .1 .1 .1 .1 .1 .1 .1 .0
 
 returns-2 : tie.Need-returns-2
 returns-2 c =
@@ -156,10 +117,10 @@ update-within-spec =
     tie.close
     (tie.spec
     work-out-requires
-    refused-requires
-    same-length
-    same-length-2
-    same-length-3
+    (λ c κs. tt)
+    (λ c. refl)
+    (λ c. refl)
+    (λ c. refl)
     same-length-4
     same-length-5
     returns
@@ -174,15 +135,15 @@ update-within-spec =
     slice-aggregate-finish-5
     slice-aggregate-finish-6
     finish-requires
-    same-length-6
-    same-length-7
-    same-length-8
-    same-length-9
-    same-length-10
+    (λ c. ended c .finish .kept .1 .0)
+    (λ c. ended c .finish .kept .1 .1 .0)
+    (λ c. ended c .finish .kept .1 .1 .1 .0)
+    (λ c. ended c .finish .kept .1 .1 .1 .1 .0)
+    (λ c. ended c .finish .kept .1 .1 .1 .1 .1 .0)
     same-length-11
     same-length-12
-    same-length-13
-    same-length-14
-    same-length-15
-    same-length-16
+    (λ c. ended c .finish .kept .1 .1 .1 .1 .1 .1 .1 .1 .1 .1 .1 .1 .1 .1 .0)
+    (λ c. ended c .finish .kept .1 .1 .1 .1 .1 .1 .1 .1 .1 .1 .1 .1 .1 .1 .1 .0)
+    (λ c. ended c .finish .kept .1 .1 .1 .1 .1 .1 .1 .1 .1 .1 .1 .1 .1 .1 .1 .1 .0)
+    (λ c. ended c .finish .kept .1 .1 .1 .1 .1 .1 .1 .1 .1 .1 .1 .1 .1 .1 .1 .1 .1 .0)
     returns-2)

@@ -27,9 +27,6 @@ fits n l h = sym (length-take-le n l h)
 slice-aggregate-write-statuses : tie.Need-slice-aggregate-write-statuses
 slice-aggregate-write-statuses c = let s = start (c .before) in fits (s .args .n) (s .args .moods .now) (omega (arith, s .pre))
 
-slice-aggregate-write-statuses-2 : tie.Need-slice-aggregate-write-statuses-2
-slice-aggregate-write-statuses-2 c = search needs
-
 write-statuses-requires : tie.Need-write-statuses-requires
 write-statuses-requires c κs =
     let s = start (c .before .before) in
@@ -42,41 +39,8 @@ slice-aggregate-block-points c = let s = start (first (c .before)) in fits (s .a
 slice-aggregate-block-points-2 : tie.Need-slice-aggregate-block-points-2
 slice-aggregate-block-points-2 c = let s = start (first (c .before .before)) in fits (s .args .n) (s .args .moods .now) (omega (arith, s .pre))
 
-slice-reshare-prefix-block-points : tie.Need-slice-reshare-prefix-block-points
-slice-reshare-prefix-block-points c = search needs
-
 slice-aggregate-block-points-3 : tie.Need-slice-aggregate-block-points-3
 slice-aggregate-block-points-3 c = let s = start (first (c .before .before .before)) in fits (s .args .count) (s .args .blockers .now) (s .pre .3)
-
-slice-aggregate-block-points-4 : tie.Need-slice-aggregate-block-points-4
-slice-aggregate-block-points-4 c = search needs
-
-block-points-requires : tie.Need-block-points-requires
-block-points-requires c κs = search needs
-
-copy-requires : tie.Need-copy-requires
-copy-requires c κs = search needs
-
-slice-aggregate-copy-bytes : tie.Need-slice-aggregate-copy-bytes
-slice-aggregate-copy-bytes c = search needs
-
-copy-bytes-requires : tie.Need-copy-bytes-requires
-copy-bytes-requires c κs = search needs
-
-slice-aggregate-copy : tie.Need-slice-aggregate-copy
-slice-aggregate-copy c = search needs
-
-copy-requires-2 : tie.Need-copy-requires-2
-copy-requires-2 c κs = search needs
-
-same-length : tie.Need-same-length
-same-length c = search needs
-
-same-length-2 : tie.Need-same-length-2
-same-length-2 c = search needs
-
-same-length-3 : tie.Need-same-length-3
-same-length-3 c = search needs
 
 returns : tie.Need-returns
 returns c =
@@ -100,20 +64,20 @@ draw-points-spec =
     tie.close
     (tie.spec
     slice-aggregate-write-statuses
-    slice-aggregate-write-statuses-2
+    (λ c. search needs)
     write-statuses-requires
     slice-aggregate-block-points
     slice-aggregate-block-points-2
-    slice-reshare-prefix-block-points
+    (λ c. search needs)
     slice-aggregate-block-points-3
-    slice-aggregate-block-points-4
-    block-points-requires
-    copy-requires
-    slice-aggregate-copy-bytes
-    copy-bytes-requires
-    slice-aggregate-copy
-    copy-requires-2
-    same-length
-    same-length-2
-    same-length-3
+    (λ c. search needs)
+    (λ c κs. search needs)
+    (λ c κs. search needs)
+    (λ c. search needs)
+    (λ c κs. search needs)
+    (λ c. search needs)
+    (λ c κs. search needs)
+    (λ c. search needs)
+    (λ c. search needs)
+    (λ c. search needs)
     returns)

@@ -15,9 +15,6 @@ start p = p .before .before .before .before .before .before .before .before .bef
 abbrev drawn : tie.After-slice-known7 → tie.After-draw-points
 drawn p = p .before .before .before .before .before .before
 
-draw-points-requires : tie.Need-draw-points-requires
-draw-points-requires c κs = search needs
-
 slice-aggregate-redraw-pairs : tie.Need-slice-aggregate-redraw-pairs
 slice-aggregate-redraw-pairs c = let s = start (drawn (c .before)) in sym (length-take-le (s .args .n) (s .args .present .now) (omega (arith, s .pre)))
 
@@ -29,18 +26,6 @@ redraw-pairs-requires c κs =
     let s = start (drawn (c .before .before .before)) in
     let e = length-take-le (s .args .n) (s .args .present .now) (omega (arith, s .pre)) in
     omega (arith, s .pre, e)
-
-same-length : tie.Need-same-length
-same-length c = search needs
-
-same-length-2 : tie.Need-same-length-2
-same-length-2 c = search needs
-
-same-length-3 : tie.Need-same-length-3
-same-length-3 c = search needs
-
-same-length-4 : tie.Need-same-length-4
-same-length-4 c = search needs
 
 returns : tie.Need-returns
 returns c =
@@ -55,12 +40,12 @@ pub redraw-spec : {M : Type 1} → statement M
 redraw-spec =
     tie.close
     (tie.spec
-    draw-points-requires
+    (λ c κs. search needs)
     slice-aggregate-redraw-pairs
     slice-aggregate-redraw-pairs-2
     redraw-pairs-requires
-    same-length
-    same-length-2
-    same-length-3
-    same-length-4
+    (λ c. search needs)
+    (λ c. search needs)
+    (λ c. search needs)
+    (λ c. search needs)
     returns)

@@ -54,12 +54,6 @@ given p = lent (start (entry p .before))
 room : (p : tie.Else3) → Enough (tables.needs (given p))
 room p = long-enough (tables.needs (given p)) (long (entry p))
 
-short-tables-requires : tie.Need-short-tables-requires
-short-tables-requires c κs = search needs
-
-refused-requires : tie.Need-refused-requires
-refused-requires c κs = search needs
-
 returns : tie.Need-returns
 returns c =
     let p = c .before .before in
@@ -67,24 +61,12 @@ returns c =
     let l = lent s in
     open-refused (s .args .size) (s .args .radius) l 8 (c .refused .result) (c .refused .ensures) (open-short (tables.needs l) (s .args .size) (s .args .radius) (judged p ∙ c .before .if1 .taken))
 
-bad-size-requires : tie.Need-bad-size-requires
-bad-size-requires c κs = search needs
-
-refused-requires-2 : tie.Need-refused-requires-2
-refused-requires-2 c κs = search needs
-
 returns-2 : tie.Need-returns-2
 returns-2 c =
     let p = c .before .before in
     let s = start (p .before .before) in
     let l = lent s in
     open-refused (s .args .size) (s .args .radius) l 0 (c .refused2 .result) (c .refused2 .ensures) (open-size (tables.needs l) (s .args .size) (s .args .radius) (long (p .before)) (sym (p .bad-size .ensures) ∙ c .before .if2 .taken))
-
-bad-radius-requires : tie.Need-bad-radius-requires
-bad-radius-requires c κs = search needs
-
-refused-requires-3 : tie.Need-refused-requires-3
-refused-requires-3 c κs = search needs
 
 returns-3 : tie.Need-returns-3
 returns-3 c =
@@ -100,17 +82,11 @@ slice-relend-prefix-clear c = room c .0
 slice-aggregate-clear : tie.Need-slice-aggregate-clear
 slice-aggregate-clear c = let p = c .before in sym (length-take-le maxCells (given p .cells) (room p .0))
 
-clear-requires : tie.Need-clear-requires
-clear-requires c κs = search needs
-
 slice-relend-prefix-clear-2 : tie.Need-slice-relend-prefix-clear-2
 slice-relend-prefix-clear-2 c = room (first c) .1 .0
 
 slice-aggregate-clear-2 : tie.Need-slice-aggregate-clear-2
 slice-aggregate-clear-2 c = let p = first (c .before) in sym (length-take-le maxPoints (given p .points) (room p .1 .0))
-
-clear-requires-2 : tie.Need-clear-requires-2
-clear-requires-2 c κs = search needs
 
 slice-relend-prefix-clear-bytes : tie.Need-slice-relend-prefix-clear-bytes
 slice-relend-prefix-clear-bytes c = room (first (second c)) .1 .1 .0
@@ -118,41 +94,17 @@ slice-relend-prefix-clear-bytes c = room (first (second c)) .1 .1 .0
 slice-aggregate-clear-bytes : tie.Need-slice-aggregate-clear-bytes
 slice-aggregate-clear-bytes c = let p = first (second (c .before)) in sym (length-take-le maxPoints (given p .statuses) (room p .1 .1 .0))
 
-clear-bytes-requires : tie.Need-clear-bytes-requires
-clear-bytes-requires c κs = search needs
-
 slice-relend-prefix-clear-3 : tie.Need-slice-relend-prefix-clear-3
 slice-relend-prefix-clear-3 c = room (first (second (third c))) .1 .1 .1 .0
 
 slice-aggregate-clear-3 : tie.Need-slice-aggregate-clear-3
 slice-aggregate-clear-3 c = let p = first (second (third (c .before))) in sym (length-take-le maxPoints (given p .blockers) (room p .1 .1 .1 .0))
 
-clear-requires-3 : tie.Need-clear-requires-3
-clear-requires-3 c κs = search needs
-
 slice-relend-prefix-clear-4 : tie.Need-slice-relend-prefix-clear-4
 slice-relend-prefix-clear-4 c = room (first (second (third (fourth c)))) .1 .1 .1 .1 .0
 
 slice-aggregate-clear-4 : tie.Need-slice-aggregate-clear-4
 slice-aggregate-clear-4 c = let p = first (second (third (fourth (c .before)))) in sym (length-take-le pairPlaces (given p .pairs) (room p .1 .1 .1 .1 .0))
-
-clear-requires-4 : tie.Need-clear-requires-4
-clear-requires-4 c κs = search needs
-
-same-length : tie.Need-same-length
-same-length c = search needs
-
-same-length-2 : tie.Need-same-length-2
-same-length-2 c = search needs
-
-same-length-3 : tie.Need-same-length-3
-same-length-3 c = search needs
-
-same-length-4 : tie.Need-same-length-4
-same-length-4 c = search needs
-
-same-length-5 : tie.Need-same-length-5
-same-length-5 c = search needs
 
 returns-4 : tie.Need-returns-4
 returns-4 c =
@@ -171,33 +123,33 @@ pub open-spec : {M : Type 1} → statement M
 open-spec =
     tie.close
     (tie.spec
-    short-tables-requires
-    refused-requires
+    (λ c κs. search needs)
+    (λ c κs. search needs)
     returns
-    bad-size-requires
-    refused-requires-2
+    (λ c κs. search needs)
+    (λ c κs. search needs)
     returns-2
-    bad-radius-requires
-    refused-requires-3
+    (λ c κs. search needs)
+    (λ c κs. search needs)
     returns-3
     slice-relend-prefix-clear
     slice-aggregate-clear
-    clear-requires
+    (λ c κs. search needs)
     slice-relend-prefix-clear-2
     slice-aggregate-clear-2
-    clear-requires-2
+    (λ c κs. search needs)
     slice-relend-prefix-clear-bytes
     slice-aggregate-clear-bytes
-    clear-bytes-requires
+    (λ c κs. search needs)
     slice-relend-prefix-clear-3
     slice-aggregate-clear-3
-    clear-requires-3
+    (λ c κs. search needs)
     slice-relend-prefix-clear-4
     slice-aggregate-clear-4
-    clear-requires-4
-    same-length
-    same-length-2
-    same-length-3
-    same-length-4
-    same-length-5
+    (λ c κs. search needs)
+    (λ c. search needs)
+    (λ c. search needs)
+    (λ c. search needs)
+    (λ c. search needs)
+    (λ c. search needs)
     returns-4)

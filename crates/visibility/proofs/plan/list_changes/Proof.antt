@@ -26,29 +26,8 @@ confirmed-long p =
     let k : length (f .last .1 .1 .0) ≡ length (s .args .confirmed .now) = f .kept .1 .1 .0 in
     length-take-le (f .result) (f .last .1 .1 .0) (omega (arith, f .ensures .3, s .pre .0, s .pre .1))
 
-confirm-requires : tie.Need-confirm-requires
-confirm-requires c κs = search needs
-
-slice-reshare-prefix-corner-changes : tie.Need-slice-reshare-prefix-corner-changes
-slice-reshare-prefix-corner-changes c = search needs
-
 slice-aggregate-corner-changes : tie.Need-slice-aggregate-corner-changes
 slice-aggregate-corner-changes c = sym (confirmed-long (c .before))
-
-corner-changes-requires : tie.Need-corner-changes-requires
-corner-changes-requires c κs = search needs
-
-same-length : tie.Need-same-length
-same-length c = search needs
-
-same-length-2 : tie.Need-same-length-2
-same-length-2 c = search needs
-
-same-length-3 : tie.Need-same-length-3
-same-length-3 c = search needs
-
-same-length-4 : tie.Need-same-length-4
-same-length-4 c = search needs
 
 returns : tie.Need-returns
 returns c =
@@ -81,12 +60,12 @@ pub list-changes-spec : {M : Type 1} → statement M
 list-changes-spec =
     tie.close
     (tie.spec
-    confirm-requires
-    slice-reshare-prefix-corner-changes
+    (λ c κs. search needs)
+    (λ c. search needs)
     slice-aggregate-corner-changes
-    corner-changes-requires
-    same-length
-    same-length-2
-    same-length-3
-    same-length-4
+    (λ c κs. search needs)
+    (λ c. search needs)
+    (λ c. search needs)
+    (λ c. search needs)
+    (λ c. search needs)
     returns)

@@ -52,9 +52,6 @@ list-changes-requires c κs =
     let w = start (p .before .before) .pre in
     (w .3, confirmed-long p, full-long p, w .4, w .5)
 
-shift-of-requires : tie.Need-shift-of-requires
-shift-of-requires c κs = tt
-
 slice-aggregate-mark-points : tie.Need-slice-aggregate-mark-points
 slice-aggregate-mark-points c = let s = start (first (listing (c .before))) in sym (length-take-le (s .args .map .points) (s .args .points .now) (s .pre .1))
 
@@ -72,12 +69,6 @@ slice-reshare-prefix-mark-points-2 c = altered-inside (listing (c .before .befor
 
 slice-aggregate-mark-points-4 : tie.Need-slice-aggregate-mark-points-4
 slice-aggregate-mark-points-4 c = let g = listing (c .before .before .before .before) in sym (length-take-le (g .list-changes .result .corners) (g .list-changes .last .1 .1 .1 .1 .1 .0) (altered-inside g))
-
-mark-points-requires : tie.Need-mark-points-requires
-mark-points-requires c κs = tt
-
-reach-of-requires : tie.Need-reach-of-requires
-reach-of-requires c κs = tt
 
 same-length : tie.Need-same-length
 same-length c = listing (shifting (c .before)) .list-changes .kept .1 .1 .1 .1 .0
@@ -109,15 +100,15 @@ work-out-spec =
     (tie.spec
     slice-aggregate-list-changes
     list-changes-requires
-    shift-of-requires
+    (λ c κs. tt)
     slice-aggregate-mark-points
     slice-aggregate-mark-points-2
     slice-reshare-prefix-mark-points
     slice-aggregate-mark-points-3
     slice-reshare-prefix-mark-points-2
     slice-aggregate-mark-points-4
-    mark-points-requires
-    reach-of-requires
+    (λ c κs. tt)
+    (λ c κs. tt)
     same-length
     same-length-2
     returns)

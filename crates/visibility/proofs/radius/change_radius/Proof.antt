@@ -59,15 +59,6 @@ inCorners p = let e : length (p .corner-cells .last .1 .0) ≡ maxCells = p .cor
 inAltered : (p : tie.After-corner-cells) → p .corner-cells .result ≤ length (p .corner-cells .last .1 .1 .0)
 inAltered p = let e : length (p .corner-cells .last .1 .1 .0) ≡ maxCells = p .corner-cells .kept .1 .1 .0 in omega (arith, found p, e)
 
-short-tables-requires : tie.Need-short-tables-requires
-short-tables-requires c κs = search needs
-
-judge-requires : tie.Need-judge-requires
-judge-requires c κs = search needs
-
-refused-requires : tie.Need-refused-requires
-refused-requires c κs = search needs
-
 returns : tie.Need-returns
 returns c =
     let p = c .before .before in
@@ -76,30 +67,6 @@ returns c =
 
 slice-aggregate-corner-cells : tie.Need-slice-aggregate-corner-cells
 slice-aggregate-corner-cells c = sym (used (c .before))
-
-slice-aggregate-corner-cells-2 : tie.Need-slice-aggregate-corner-cells-2
-slice-aggregate-corner-cells-2 c = search needs
-
-slice-aggregate-corner-cells-3 : tie.Need-slice-aggregate-corner-cells-3
-slice-aggregate-corner-cells-3 c = search needs
-
-corner-cells-requires : tie.Need-corner-cells-requires
-corner-cells-requires c κs = search needs
-
-shift-of-requires : tie.Need-shift-of-requires
-shift-of-requires c κs = search needs
-
-slice-reshare-prefix-mark-points : tie.Need-slice-reshare-prefix-mark-points
-slice-reshare-prefix-mark-points c = search needs
-
-slice-aggregate-mark-points : tie.Need-slice-aggregate-mark-points
-slice-aggregate-mark-points c = search needs
-
-slice-reshare-prefix-mark-points-2 : tie.Need-slice-reshare-prefix-mark-points-2
-slice-reshare-prefix-mark-points-2 c = search needs
-
-slice-aggregate-mark-points-2 : tie.Need-slice-aggregate-mark-points-2
-slice-aggregate-mark-points-2 c = search needs
 
 array-share-prefix-corners : tie.Need-array-share-prefix-corners
 array-share-prefix-corners c = inCorners (c .before .before .before .before .before)
@@ -113,24 +80,6 @@ array-share-prefix-altered c = inAltered (c .before .before .before .before .bef
 slice-aggregate-mark-points-4 : tie.Need-slice-aggregate-mark-points-4
 slice-aggregate-mark-points-4 c = let p = c .before .before .before .before .before .before .before in sym (length-take-le (p .corner-cells .result) (p .corner-cells .last .1 .1 .0) (inAltered p))
 
-slice-aggregate-mark-points-5 : tie.Need-slice-aggregate-mark-points-5
-slice-aggregate-mark-points-5 c = search needs
-
-slice-aggregate-mark-points-6 : tie.Need-slice-aggregate-mark-points-6
-slice-aggregate-mark-points-6 c = search needs
-
-mark-points-requires : tie.Need-mark-points-requires
-mark-points-requires c κs = search needs
-
-refused-requires-2 : tie.Need-refused-requires-2
-refused-requires-2 c κs = search needs
-
-same-length : tie.Need-same-length
-same-length c = search needs
-
-same-length-2 : tie.Need-same-length-2
-same-length-2 c = search needs
-
 returns-2 : tie.Need-returns-2
 returns-2 c =
     let m = c .before .before .before .before in
@@ -138,29 +87,8 @@ returns-2 c =
     let s = start (entry k .before) in
     rebuild-packed (s .args .map) (s .args .radius) (lent s) (passes (entry k)) (k .corner-cells .ensures .0) (shifted m .shift-of .ensures) (m .mark-points .ensures) (c .refused2 .result) (c .before .if2 .taken) (c .refused2 .ensures)
 
-reach-of-requires : tie.Need-reach-of-requires
-reach-of-requires c κs = search needs
-
 slice-aggregate-draw-afresh : tie.Need-slice-aggregate-draw-afresh
 slice-aggregate-draw-afresh c = sym (used (entry (cornered (marked (c .before)))))
-
-array-share-prefix-corners-2 : tie.Need-array-share-prefix-corners-2
-array-share-prefix-corners-2 c = search needs
-
-slice-aggregate-draw-afresh-2 : tie.Need-slice-aggregate-draw-afresh-2
-slice-aggregate-draw-afresh-2 c = search needs
-
-array-share-prefix-altered-2 : tie.Need-array-share-prefix-altered-2
-array-share-prefix-altered-2 c = search needs
-
-slice-aggregate-draw-afresh-3 : tie.Need-slice-aggregate-draw-afresh-3
-slice-aggregate-draw-afresh-3 c = search needs
-
-slice-aggregate-draw-afresh-4 : tie.Need-slice-aggregate-draw-afresh-4
-slice-aggregate-draw-afresh-4 c = search needs
-
-slice-aggregate-draw-afresh-5 : tie.Need-slice-aggregate-draw-afresh-5
-slice-aggregate-draw-afresh-5 c = search needs
 
 draw-afresh-requires : tie.Need-draw-afresh-requires
 draw-afresh-requires c κs =
@@ -179,18 +107,6 @@ draw-afresh-requires c κs =
       rebuild-room (s .args .map) (s .args .radius) (lent s) (passes e) .1 .1 .1 .1 .0,
     )
 
-same-length-3 : tie.Need-same-length-3
-same-length-3 c = search needs
-
-same-length-4 : tie.Need-same-length-4
-same-length-4 c = search needs
-
-same-length-5 : tie.Need-same-length-5
-same-length-5 c = search needs
-
-same-length-6 : tie.Need-same-length-6
-same-length-6 c = search needs
-
 returns-3 : tie.Need-returns-3
 returns-3 c =
     let d = c .before .before .before .before .before .before .before .before in
@@ -206,41 +122,41 @@ pub change-radius-spec : {M : Type 1} → statement M
 change-radius-spec =
     tie.close
     (tie.spec
-    short-tables-requires
-    judge-requires
-    refused-requires
+    (λ c κs. search needs)
+    (λ c κs. search needs)
+    (λ c κs. search needs)
     returns
     slice-aggregate-corner-cells
-    slice-aggregate-corner-cells-2
-    slice-aggregate-corner-cells-3
-    corner-cells-requires
-    shift-of-requires
-    slice-reshare-prefix-mark-points
-    slice-aggregate-mark-points
-    slice-reshare-prefix-mark-points-2
-    slice-aggregate-mark-points-2
+    (λ c. search needs)
+    (λ c. search needs)
+    (λ c κs. search needs)
+    (λ c κs. search needs)
+    (λ c. search needs)
+    (λ c. search needs)
+    (λ c. search needs)
+    (λ c. search needs)
     array-share-prefix-corners
     slice-aggregate-mark-points-3
     array-share-prefix-altered
     slice-aggregate-mark-points-4
-    slice-aggregate-mark-points-5
-    slice-aggregate-mark-points-6
-    mark-points-requires
-    refused-requires-2
-    same-length
-    same-length-2
+    (λ c. search needs)
+    (λ c. search needs)
+    (λ c κs. search needs)
+    (λ c κs. search needs)
+    (λ c. search needs)
+    (λ c. search needs)
     returns-2
-    reach-of-requires
+    (λ c κs. search needs)
     slice-aggregate-draw-afresh
-    array-share-prefix-corners-2
-    slice-aggregate-draw-afresh-2
-    array-share-prefix-altered-2
-    slice-aggregate-draw-afresh-3
-    slice-aggregate-draw-afresh-4
-    slice-aggregate-draw-afresh-5
+    (λ c. search needs)
+    (λ c. search needs)
+    (λ c. search needs)
+    (λ c. search needs)
+    (λ c. search needs)
+    (λ c. search needs)
     draw-afresh-requires
-    same-length-3
-    same-length-4
-    same-length-5
-    same-length-6
+    (λ c. search needs)
+    (λ c. search needs)
+    (λ c. search needs)
+    (λ c. search needs)
     returns-3)

@@ -18,28 +18,6 @@ use Rattle.marks.proofs.mood.Mood.marked.Lts as lts
 use Rattle.corner.proofs.bits.CornerStatus.is_corner.Reads as is-corner-reads
 use Rattle.corner.proofs.bits.CornerStatus.set.Reads as set-reads
 
--- src/mood.rt:43:13
-set-requires : tie.Need-set-requires
-set-requires c κs = search needs
-
--- src/mood.rt:45:13
-is-corner-requires : tie.Need-is-corner-requires
-is-corner-requires c κs = search needs
-
--- src/mood.rt:48:13
-is-corner-requires-2 : tie.Need-is-corner-requires-2
-is-corner-requires-2 c κs = search needs
-
--- src/mood.rt:50:23
-is-corner-requires-3 : tie.Need-is-corner-requires-3
-is-corner-requires-3 c κs = search needs
-
--- src/mood.rt:54:21
-add-first : tie.Need-add-first
-add-first c = search needs
-
--- src/mood.rt:38:5
-
 abbrev start : tie.Joined2 → tie.Start
 start j = j .before .before .before .before .before
 
@@ -93,10 +71,10 @@ pub marked-spec : {M : Type 1} → statement M
 marked-spec =
     tie.close
     (tie.spec
-    set-requires
-    is-corner-requires
-    is-corner-requires-2
-    is-corner-requires-3
-    add-first
+    (λ c κs. search needs)
+    (λ c κs. search needs)
+    (λ c κs. search needs)
+    (λ c κs. search needs)
+    (λ c. search needs)
     returns
     returns-2)
