@@ -43,7 +43,7 @@ bit-le : (b : Bool) → cond b 1 0 ≤ 1
 bit-le true = omega arith
 bit-le false = omega arith
 
--- ---- listed: n changes stand in the two tables
+-- ---- listed: n changes are in the two tables
 abbrev pub wanted : List ℕ → List ℤ → ℕ → List (ℕ × ℕ)
 wanted C b i = flags (picked alters C (rest b i))
 

@@ -7,6 +7,7 @@ use crate::window::differing_but;
 use crate::window::status_at;
 use crate::window::window;
 use sizes::COLUMN;
+use sizes::TWO_COLUMNS;
 ghost use mathlib.Core.Path.{_≡_};
 ghost use mathlib.Core.List.{List};
 ghost use Prim.Native.Nat.{ℕ, _+_, _*_, _^_, _<_, _≤_};
@@ -24,7 +25,7 @@ ghost use Rattle.corner.specs.Window.{gathered, pickedAt};
 // is in the middle of no window.
 const INNER: u64 = COLUMN + 1;
 
-const MIDDLE: u64 = 2 * COLUMN + 2;
+const MIDDLE: u64 = TWO_COLUMNS + 2;
 
 const OUTERMOST: u64 = 18446744073709551615 - (MIDDLE - 1);
 

@@ -1,5 +1,8 @@
 // The 5 by 5 cells around a cell as a word: bit 5 * i + j is the cell i columns and j rows from the lowest key on.
 use sizes::COLUMN;
+use sizes::FOUR_COLUMNS;
+use sizes::THREE_COLUMNS;
+use sizes::TWO_COLUMNS;
 use table::place::stands_at;
 use table::places::places_of;
 ghost use mathlib.Core.Path.{_≡_};
@@ -8,13 +11,6 @@ ghost use Rattle.model.specs.Cell.{W};
 ghost use Rattle.model.specs.Maps.{AscL, has};
 ghost use Rattle.table.specs.Search.{Placed};
 ghost use Rattle.corner.specs.Window.{Sees, beside, differing, northeasts, northwests, on, southeasts, southwests, statusAt};
-
-// Columns further, in keys.
-const COLUMNS_2: u64 = 2 * COLUMN;
-
-const COLUMNS_3: u64 = 3 * COLUMN;
-
-const COLUMNS_4: u64 = 4 * COLUMN;
 
 // Which cells have which corner.
 pub(crate) struct Corners {
@@ -55,9 +51,9 @@ pub(crate) fn window(t: &[u64], low: u64) -> u64
     let f = places_of(t, low);
     let a = five(t, f.a, low);
     let b = five(t, f.b, low + COLUMN);
-    let c = five(t, f.c, low + COLUMNS_2);
-    let d = five(t, f.d, low + COLUMNS_3);
-    let e = five(t, f.e, low + COLUMNS_4);
+    let c = five(t, f.c, low + TWO_COLUMNS);
+    let d = five(t, f.d, low + THREE_COLUMNS);
+    let e = five(t, f.e, low + FOUR_COLUMNS);
     a + 32 * (b + 32 * (c + 32 * (d + 32 * e)))
 }
 

@@ -1,4 +1,4 @@
-// A batch on a floor, whole: judged first, then committed. A refusal alters nothing.
+// A batch on a floor, whole: judged first, then committed. A refused call leaves every table as it was.
 use batches::batch::commit;
 use batches::batch::confirm;
 use batches::batch::count_after;

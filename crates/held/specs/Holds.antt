@@ -40,7 +40,7 @@ pub record Holds (m : Map) (t : Tables) (M : model.Map) : Type 0 where
   pub layer : HoldsLayer (t .points) (t .statuses) (t .blockers) (t .pairs) (m .points) (M .layer)
   pub good : Good (model.shiftOf (M .size) (M .layer .radius)) (M .cells) (M .layer)
 
--- what stands behind the fixed needs is untouched
+-- what is past the fixed needs is left as it was
 pub record Behind (t t′ : Tables) : Type 0 where
   pub cells : drop maxCells (t′ .cells) ≡ drop maxCells (t .cells)
   pub points : drop maxPoints (t′ .points) ≡ drop maxPoints (t .points)

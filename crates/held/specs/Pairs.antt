@@ -4,12 +4,8 @@ use mathlib.Core.Path.{_≡_}
 use mathlib.Core.List.{List}
 use mathlib.Core.Option.{Option}
 use lib.ListN.{getD}
-use Rattle.model.specs.Limits.{maxPoints}
+pub use Rattle.model.specs.Limits.{maxPoints, pairPlaces}
 use Rattle.held.specs.Codes.{NamedPair, pairCode}
-
--- places of the table of pairs: a row for each point
-abbrev pub pairPlaces : ℕ
-pairPlaces = maxPoints * maxPoints
 
 abbrev pub pairPlace : ℕ → ℕ → ℕ
 pairPlace i j = maxPoints * i + j

@@ -11,16 +11,15 @@ use Rattle.model.specs.ClosedForm.{stand}
 use Rattle.model.specs.Corner.{Bits}
 use Rattle.model.specs.Layer.{Points, marks}
 use Rattle.model.specs.Limits.{maxPoints, maxShift, needCorners}
-use Rattle.model.specs.Maps.{Asc, AscL, has, keys}
+use Rattle.model.specs.Maps.{AscL, has, keys}
 use Rattle.model.proofs.OrderLaws.{asc-keys}
-use Rattle.table.specs.Listed.{Listed, values}
+use Rattle.table.specs.Listed.{Listed}
 use Rattle.table.specs.Copied.{Copied}
-use Rattle.table.specs.Tables.{All, Table, pad, rank}
+use Rattle.table.specs.Tables.{Table, pad, rank}
 use Rattle.table.proofs.ListedLaws.{keys-length, values-length}
 use Rattle.table.proofs.RankLaws.{rank-le}
 use Rattle.table.proofs.TableLaws.{pad-length, pad-table, pad-take}
 use Rattle.marks.specs.Marked.{Answered, Begins, Gathers, Marking, MarksAll, Picks, candidateRoom, ended, ending, maxCandidates}
-use Rattle.held.specs.Layers.{statusesOf}
 use Rattle.marks.specs.Standing.{Standing, begun, standing, words}
 use Rattle.held.proofs.LayerLaws.{statuses-length}
 
@@ -90,7 +89,7 @@ module _ (s : ℕ) (ps : Points) (changed : List (ℕ × Bits)) (points statuses
         λ l. absurd (omega (arith, count-is)),
       )
 
-  -- ---- the keys are gathered from the points, with zeros behind, which t holds
+  -- ---- the candidates are gathered from the points; the unused rest of t is zero
   module _ (t t′ : List ℕ) (copied : Copied points (replicate candidateRoom 0) t) (n : ℕ)
       (gathered : Gathers s corners altered t (length points) t′ n) where
     padded : t ≡ pad candidateRoom points

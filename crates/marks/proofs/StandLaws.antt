@@ -81,6 +81,6 @@ add-few k (x ∷ l) = go (eqb k x) (ltb k x) (add-few k l)
     go false true ih = omega arith
     go false false ih = omega arith
 
--- what stands on the way is among what stands in the end
+-- the candidates of some corners are among those of all
 pub stand-part : (s i : ℕ) (changed : List (ℕ × Bits)) (K : List ℕ) → length (stand (marks s (take i changed)) K) ≤ length (stand (marks s changed) K)
 stand-part s i changed K = rw (marks-split s i changed, stand-append (marks s (take i changed)) (marks s (drop i changed)) K) (stand-more (marks s (drop i changed)) (stand (marks s (take i changed)) K))

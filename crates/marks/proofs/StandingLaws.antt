@@ -240,7 +240,7 @@ ahead-first n (m ∷ ms) B p q d =
         go true e = rw (e tt) refl
         go false e = refl
 
--- Of two points that one stands before the other in the queue which was queued by an earlier mark.
+-- Of two points that one is earlier in the queue which was queued by an earlier mark.
 pub standing-ahead : (ms : List Mark) (B : ℕ → Bits) (p q a b : ℕ) → p ≢ q
     → ahead p q (queueRun ms B)
     ≡ sooner (standing 0 ms p (record { bits = B p; old = a; first = 0 }) .first) (standing 0 ms q (record { bits = B q; old = b; first = 0 }) .first)

@@ -34,7 +34,7 @@ ending f (k ∷ l) = let r = ending f l in cond (anyBit (f k .bits)) ((k, word (
 abbrev pub ended : ℕ → Points → List (ℕ × Bits) → List (ℕ × ℕ)
 ended s ps changed = ending (λ k. standing 0 (marks s changed) k (begun ps k)) (stand (marks s changed) (keys ps))
 
--- the lent lists are the points ps and the changed corners. A point that stands on the way was there before or is there in the end
+-- the lent lists are the points ps and the changed corners. Every candidate was a point before or is one in the end
 pub record Marking (s : ℕ) (ps : Points) (changed : List (ℕ × Bits)) (points statuses corners altered : List ℕ) : Type 0 where
   pub small : s ≤ maxShift
   pub few : length ps ≤ maxPoints

@@ -37,7 +37,7 @@ unfoldable pub standing : ℕ → List Mark → ℕ → Standing → Standing
 standing n [] k w = w
 standing n (m ∷ ms) k w = standing (suc n) ms k (stood n m k w)
 
--- queued before the other: told from the first marks that queued them
+-- queued before the other: by the numbers of the first marks that queued them
 abbrev pub sooner : ℕ → ℕ → Bool
 sooner a b = not (eqb a 0) && (eqb b 0 || ltb a b)
 

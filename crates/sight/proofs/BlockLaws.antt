@@ -10,7 +10,6 @@ use lib.ListN.{length, drop, getD, set, length-set}
 use lib.Ieee.{Float}
 use Rattle.table.proofs.ListedLaws.{keys-at}
 use Rattle.batches.proofs.WriteLaws.{listed-lengths}
-use Rattle.limits.specs.Batches.{flags}
 use Rattle.table.proofs.Front.{mix, mix-done, mix-more}
 use Rattle.marks.specs.Standing.{Small, Standing, mood, word}
 use Rattle.marks.specs.declared.mood.Mood.{Mood}
@@ -18,15 +17,11 @@ use Rattle.model.specs.Batch.{Batch}
 use Rattle.model.specs.Cell as cell
 use Rattle.model.specs.ClosedForm.{pointRun}
 use Rattle.model.specs.Corner.{zero4}
-use Rattle.model.specs.Good.{Inside}
 use Rattle.model.specs.Layer.{Tests}
-use Rattle.model.specs.Limits.{maxCoordinate, maxPoints}
+use Rattle.model.specs.Limits.{maxPoints}
 use Rattle.model.specs.Map.{shiftOf, tests}
-use Rattle.model.specs.Maps.{AscL, keys}
-use Rattle.table.specs.Listed.{values}
-use Rattle.table.specs.Tables.{All}
 use Rattle.table.proofs.ListedLaws.{keys-length}
-use Rattle.held.specs.Codes.{AllNamed, Named, blockCode, codes}
+use Rattle.held.specs.Codes.{AllNamed, blockCode, codes}
 use Rattle.sight.specs.Blocked.{Fitting, PointRuns, PointStarts, Seeing, Stood, pointBlocks, pointStart, wordsOf}
 use Rattle.looks.proofs.NamedLaws.{square-named}
 use Rattle.sight.proofs.PointLaws.{codes-at, start-named}

@@ -54,7 +54,7 @@ pub record Coded (block : ℕ) (o : Option ℕ) : Type 0 where
   pub code : block ≡ blockCode o
   pub named : Named o
 
--- after i changes `block` stands: the others make of it what all of them make of o
+-- after i changes there is `block`: the others make of it what all of them make of o
 pub record Left (F : Batch → Option ℕ → Option ℕ) (ch : Batch) (o : Option ℕ) (i block : ℕ) : Type 0 where
   pub held : Option ℕ
   pub coded : Coded block held

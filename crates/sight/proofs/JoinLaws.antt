@@ -4,25 +4,19 @@ use native.Mathlib.Omega.{arith}
 use mathlib.Core.Path.{_≡_, refl, sym, ap, _∙_}
 use mathlib.Core.Bool.{Bool, true, false, _&&_}
 use mathlib.Core.List.{List}
-use mathlib.Core.Option.{Option, none}
+use mathlib.Core.Option.{none}
 use borrow.Author.Tests.{lt-ltb, le-ltb, ltb-true}
 use lib.Dec.{ltb}
 use lib.Ieee.{Float}
 use lib.ListN.{length, getD, set, length-set}
 use Rattle.table.proofs.ListedLaws.{keys-at}
-use Rattle.limits.specs.Batches.{flags}
 use Rattle.marks.specs.Standing.{Small, Standing, mood, word}
 use Rattle.marks.specs.declared.mood.Mood.{Mood}
 use Rattle.model.specs.Batch.{Batch}
-use Rattle.model.specs.Good.{Inside}
 use Rattle.model.specs.Layer.{Tests}
-use Rattle.model.specs.Limits.{maxCoordinate, maxPoints}
 use Rattle.model.specs.Map.{tests}
-use Rattle.model.specs.Maps.{AscL, keys}
 use Rattle.segment.specs.Near.{IsProximity}
 use Rattle.segment.specs.declared.near.Proximity.{Proximity}
-use Rattle.table.specs.Listed.{values}
-use Rattle.table.specs.Tables.{All}
 use Rattle.table.proofs.ListedLaws.{keys-length}
 use Rattle.sight.specs.Blocked.{Seeing, Stood}
 use Rattle.held.specs.Codes.{pairCode}
@@ -53,7 +47,7 @@ module _ (t : Tests) (C : List ℕ) (ch : Batch) (P : PairsBy) (S : Stood) (i j 
   unfolding pairAt
   at-back h l = let g : i ≤ j = omega arith in rw (le-ltb j i g, lt-ltb i j h, lt-ltb j (length S) l) refl
 
--- behind the j-th place of the i-th row there is no further point
+-- past the j-th place of the i-th row there is no further point
 last : (i j a b n : ℕ) → n ≤ j → a < 64 → b < 64 → 64 * i + j ≤ forePlace a b → forePlace a b < 64 * (i + 1) → a < b → n ≤ b
 last i j a b n k x y u v h = let e : forePlace a b ≡ 64 * a + b = omega arith in let f : a ≡ i = omega arith in omega arith
 
@@ -64,7 +58,7 @@ last′ i j a b n k x y u v h = let e : forePlace a b ≡ 64 * b + a = omega ari
 -- what is lent: the points S with the old pairs P
 pub record Joining (size radius : Float) (proximity : Proximity) (C : List ℕ) (ch : Batch) (S : Stood) (P : PairsBy) (confirmed full points moods old : List ℕ) : Type 0 where
   pub seeing : Seeing C ch S confirmed full points moods
-  pub prepared : IsProximity size radius proximity
+  pub isProximity : IsProximity size radius proximity
   pub pairs : Pairs P old
   pub named : PairsNamed P
 
@@ -89,7 +83,7 @@ module _ (size radius : Float) (proximity : Proximity) (C confirmed full points 
       let b : other ≡ mood (y .1) = g (y .1) (fy .0) (ap (λ (m : List ℕ). getD m j 0) (s .moodsAre) ∙ words-at S j nobody hj) in
       let p : getD points i 0 ≡ x .0 = ap (λ (m : List ℕ). getD m i 0) (s .pointsAre) ∙ keys-at S i (nobody .1) in
       let q : getD points j 0 ≡ y .0 = ap (λ (m : List ℕ). getD m j 0) (s .pointsAre) ∙ keys-at S j (nobody .1) in
-      t ch P (x .1) (y .1) (s .order) (s .inside) (s .changes) (s .confirmedAre) (s .fullAre) (w .prepared) (w .pairs) (w .named) a b (fx .1) (fy .1)
+      t ch P (x .1) (y .1) (s .order) (s .inside) (s .changes) (s .confirmedAre) (s .fullAre) (w .isProximity) (w .pairs) (w .named) a b (fx .1) (fy .1)
       ∙ ap (λ (k : ℕ). pairCode (pairBetween (tests size radius) C ch P k (x .1) (getD points j 0) (y .1))) p
       ∙ ap (λ (k : ℕ). pairCode (pairBetween (tests size radius) C ch P (x .0) (x .1) k (y .1))) q
       ∙ ap pairCode (sym (at-fore (tests size radius) C ch P S i j h hj))

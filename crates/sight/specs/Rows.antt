@@ -1,7 +1,7 @@
 -- Between functions: the table of pairs while it is filled, row by row. Definitions only.
 use Prim.Native.Nat.{ℕ, _+_, _-_, min}
 use mathlib.Core.Bool.{cond}
-use mathlib.Core.Option.{Option, none}
+use mathlib.Core.Option.{none}
 use lib.Dec.{ltb}
 use Rattle.held.specs.Pairs.{PairsBy, pairPlace}
 

@@ -28,7 +28,7 @@ ghost use Rattle.sight.specs.Rows.{upTo};
 // Places of a row of the table of pairs.
 const ROW: u64 = POINTS as u64;
 
-// Whether a point was queued before another, told from the first marks that queued them.
+// Whether a point was queued before another, by the numbers of the first marks that queued them.
 fn is_sooner(a: u64, b: u64) -> bool
     ensures { λ r. ⌜ r ≡ sooner a b ⌝ }
 {

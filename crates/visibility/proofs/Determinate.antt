@@ -5,7 +5,6 @@ use mathlib.Core.Path.{_≡_, refl, sym, ap, _∙_}
 use mathlib.Core.Logic.{⊎-elim, inl, inr}
 use mathlib.Core.Bool.{Bool, true, false}
 use mathlib.Core.List.{List, _++_}
-use mathlib.Core.Option.{Option}
 use lib.Dec.{ltb}
 use lib.Ieee.{Float}
 use lib.IntN.{ℤ}
@@ -32,7 +31,7 @@ use Rattle.held.specs.declared.map.Map.{Map}
 use Rattle.held.specs.declared.map.Outcome.{Outcome}
 use Rattle.visibility.proofs.RefuseLaws.{batch-ragged}
 
--- ---- tables that hold one map, and have the same behind their needs
+-- ---- tables that hold one map, and are the same beyond their needs
 pad-one : (cap : ℕ) (l a b : List ℕ) → a ≡ pad cap l ++ drop cap a → b ≡ pad cap l ++ drop cap b → drop cap a ≡ drop cap b → a ≡ b
 pad-one cap l a b x y d = x ∙ ap (λ (u : List ℕ). pad cap l ++ u) d ∙ sym y
 

@@ -39,7 +39,7 @@ stood-at ms ps [] i h = absurd (not-suc-le-zero h)
 stood-at ms ps (e ∷ r) zero h = refl
 stood-at ms ps (e ∷ r) (suc i) h = stood-at ms ps r i (le-of-suc-le-suc h)
 
--- the pair of two keys stands at their places
+-- the pair of two keys is at their places
 pub edge-at : (l : Layer) → Asc 0 (l .points) → (p q : ℕ) → has p (keys (l .points)) ≡ true → has q (keys (l .points)) ≡ true
     → edgeAt l (rank p (keys (l .points))) (rank q (keys (l .points))) ≡ edge p q (l .edges)
 unfolding edgeAt

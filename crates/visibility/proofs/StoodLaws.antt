@@ -153,7 +153,7 @@ module _ {t : Tests} {C : List ℕ} {ch : Batch} {ms : List Mark} {l l′ : Laye
   pub stood-statuses : numbersOf (stoodOf ms (l .points) (l′ .points)) ≡ statusesOf (l′ .points)
   stood-statuses = statuses-within (l′ .points) (asc-within 0 (l′ .points) (cl .good .pointOrder))
 
-  -- of the keys that stand at some time, those with a status in the end are the points afterwards
+  -- of the candidates, those with a status in the end are the points afterwards
   module _ (order : Asc 0 (l .points)) where
     abbrev over : List (ℕ × ℕ)
     over = ending (left ms (l .points)) (stand ms (keys (l .points)))

@@ -1,26 +1,21 @@
--- A batch that nothing but the number of points may refuse: the lists handed on, and what the call comes to. Assumes nothing.
+-- A batch that nothing but the number of points may refuse: the lists handed on, and the outcome of the call. Assumes nothing.
 use Prim.Native.Nat.{ℕ, _*_, _≤_, _<_}
 use native.Mathlib.Omega.{arith}
 use mathlib.Core.Path.{_≡_, refl, sym, ap, _∙_, subst}
 use mathlib.Core.Logic.{inl, inr}
-use mathlib.Core.Bool.{false}
 use mathlib.Core.List.{List}
 use lib.Ieee.{Float}
 use lib.IntN.{ℤ}
 use lib.ListN.{length, length-replicate, replicate, take}
 use borrow.Author.Tests.{ltb-false, ltb-true}
-use Rattle.corner.specs.Changes.{numbered}
 use Rattle.limits.proofs.FloorLaws.{holds-cells}
-use Rattle.limits.specs.Batches.{entries, flags}
+use Rattle.limits.specs.Batches.{entries}
 use Rattle.limits.proofs.EntryLaws.{entries-length}
 use Rattle.marks.specs.Marked.{Marking, Marks}
-use Rattle.model.specs.Batch.{cellsAfter, confirmed, cornerChanges}
 use Rattle.model.specs.Cell as cell
 use Rattle.model.specs.Layer.{marks}
 use Rattle.model.specs.Limits.{maxBatch, maxPoints, needConfirmed, needCorners}
 use Rattle.model.specs.Map as model
-use Rattle.model.specs.Maps.{AscL}
-use Rattle.model.specs.Refusal.{outside, unsorted}
 use Rattle.sight.specs.Blocked.{wordsOf}
 use Rattle.table.specs.Listed.{Listed}
 use Rattle.table.proofs.ListedLaws.{listed-cells, listed-numbers}

@@ -69,7 +69,7 @@ Finishes m t t′ confirmed full corners altered present moods n reach r =
     × ((M : model.Map) (l : List model.Entry) → reach ≡ cell.reach (model.shiftOf (M .size) (M .layer .radius)) → Finishing m (t .tables) M l confirmed full corners altered present moods n
     → needConfirmed ≤ length (t .confirmed) → needConfirmed ≤ length (t .full) → needCorners ≤ length (t .corners) → needCorners ≤ length (t .altered) → Done m M l t t′ r)
 
--- what such a batch comes to
+-- the outcome of such a batch
 pub record Updated (m : Map) (l : List model.Entry) (t t′ : Lent) (r : Changed) : Type 0 where
   pub either : (r .refusal ≡ 0) ⊎ ((r ≡ refusedWith 7) × (t′ ≡ t))
   pub packed : (M : model.Map) → Updating m (t .tables) M l → ltb maxPoints (pointsAfter M l) ≡ true → r .refusal ≡ 7

@@ -1,4 +1,4 @@
-// A batch on a map: judged first, then committed. A refusal alters nothing.
+// A batch on a map: judged first, then committed. A refused call leaves every table as it was.
 use crate::judge::short_tables;
 use crate::layer::redraw;
 use crate::plan::work_out;

@@ -261,7 +261,7 @@ pub(crate) fn redraw(
     );
 }
 
-// Writes the tables of the n points afresh: no blocker and no pair of the `before` points that there were counts.
+// Writes the tables of the n points from nothing: no blocker and no pair of the `before` points that there were is kept.
 pub(crate) fn draw_afresh(
     size: f64,
     radius: f64,

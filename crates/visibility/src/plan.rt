@@ -1,4 +1,4 @@
-// What a batch on a map comes to, worked out before any table is altered.
+// What a batch on a map changes, worked out before any table is written.
 use batches::batch::confirm;
 use corner::changes::corner_changes;
 use held::map::Map;
@@ -46,7 +46,7 @@ fn list_changes(
     }
 }
 
-// What a batch comes to: how many changes were confirmed, how many corners changed, how many points there are then, and the reach.
+// The outcome of a batch: how many changes were confirmed, how many corners changed, how many points there are then, and the reach.
 pub(crate) struct Plan {
     pub(crate) confirmed: usize,
     pub(crate) corners: usize,

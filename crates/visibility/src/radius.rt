@@ -1,4 +1,4 @@
-// A change of the radius: points and pairs are built afresh, over cells that stay.
+// A change of the radius: points and pairs are built anew, over the same cells.
 use crate::judge::short_tables;
 use crate::layer::draw_afresh;
 use crate::refusal::refused;
@@ -41,7 +41,7 @@ fn judge(short: bool, map: Map, radius: f64) -> u8
     0
 }
 
-// Setting the same radius is a change too: blockers are told afresh.
+// Setting the same radius is a change too: blockers are worked out anew.
 pub fn change_radius(
     map: Map,
     cells: &[u64],

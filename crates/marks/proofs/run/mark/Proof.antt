@@ -1,4 +1,4 @@
--- `run::mark`: the word at the key's place is set, where the key stands there. Assumes nothing.
+-- `run::mark`: the word at the key's place is set, where the key is a candidate. Assumes nothing.
 use Prim.Native.Nat.{ℕ, _<_}
 use native.Mathlib.Omega.{arith}
 use mathlib.Core.Path.{_≡_, refl, sym, ap, _∙_}

@@ -1,4 +1,4 @@
--- `pair::join_pairs`: the rows before the i-th stand. Assumes nothing.
+-- `pair::join_pairs`: the rows before the i-th are written. Assumes nothing.
 use Prim.Native.Nat.{_-_, _*_, _≤_}
 use native.Mathlib.Omega.{arith}
 use mathlib.Core.Logic.{⊎-elim}
@@ -65,7 +65,7 @@ loop-again c =
     let n = l .before .before in
     let a = n .before .before .before .before .before .before .before .before .before .before .before .before .args in
     rows-more (a .size) (a .radius) (n .new .result) (a .cells .now) (a .confirmed .now) (a .full .now) (a .points .now) (a .moods .now) (a .old .now) (g .i) (a .out .now) (g .out) (j .join-row .last .1 .1 .1 .1 .1 .1 .1 .1 .1 .1 .0) (g .inv) (l .loop-test .taken) (c .before .out .given)
-    (λ ch S P w s. j .join-row .ensures ch S P (w .seeing) (w .prepared) (w .pairs) (w .named) s)
+    (λ ch S P w s. j .join-row .ensures ch S P (w .seeing) (w .isProximity) (w .pairs) (w .named) s)
 
 same-length : tie.Need-same-length Inv-loop μ-loop
 same-length c = c .before .loop .inv .same
@@ -76,7 +76,7 @@ returns-3 c = λ ch S P seeing pairs named space few s.
     let n = c .before .before in
     let a = n .before .before .before .before .before .before .before .before .before .before .before .before .args in
     rows-end (a .size) (a .radius) (n .new .result) (a .cells .now) (a .confirmed .now) (a .full .now) (a .points .now) (a .moods .now) (a .old .now) (g .i) (a .out .now) (g .out) (g .inv) (c .loop-test .left) ch S P
-    (record { seeing = seeing; prepared = n .new .ensures; pairs = pairs; named = named }) s
+    (record { seeing = seeing; isProximity = n .new .ensures; pairs = pairs; named = named }) s
 
 pub join-pairs-spec : {M : Type 1} → statement M
 join-pairs-spec =

@@ -1,4 +1,4 @@
--- `pair::join_row`: the pairs up to the j-th point stand, from both ends. Assumes nothing.
+-- `pair::join_row`: the pairs up to the j-th point are written, from both ends. Assumes nothing.
 use Prim.Native.Nat.{_+_, _-_, _*_, _≤_, _<_}
 use native.Mathlib.Omega.{arith}
 use borrow.Author.Needs.{needs}
@@ -118,12 +118,12 @@ same-length : tie.Need-same-length Inv-loop μ-loop
 same-length c = c .before .loop .inv .same
 
 returns : tie.Need-returns Inv-loop μ-loop
-returns c = λ ch S P seeing prepared pairs named s.
+returns c = λ ch S P seeing isProximity pairs named s.
     let g = c .before .loop in
     let m = c .before .before .before .before .before in
     let a = m .before .before .before .before .before .before .before .args in
     row-end (a .size) (a .radius) (a .proximity) (a .cells .now) (a .confirmed .now) (a .full .now) (a .points .now) (a .moods .now) (a .old .now) (a .i) (g .j) (a .out .now) (g .out) (g .inv) (c .loop-test .left) (asked m .1) ch S P
-    (record { seeing = seeing; prepared = prepared; pairs = pairs; named = named }) s
+    (record { seeing = seeing; isProximity = isProximity; pairs = pairs; named = named }) s
 
 pub join-row-spec : {M : Type 1} → statement M
 join-row-spec =

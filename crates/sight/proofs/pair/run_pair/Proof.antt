@@ -7,12 +7,13 @@ use borrow.Author.Needs.{needs}
 use lib.ListN.{length, getD}
 use Rattle.model.specs.Map.{tests}
 use Rattle.sight.proofs.EdgeLaws.{Running, running-end, running-freed, running-kept, running-missed, running-passed, running-start}
-use Rattle.sight.proofs.NearLaws.{passes, passes-near}
+use Rattle.segment.specs.Many.{prepared}
+use Rattle.sight.proofs.NearLaws.{prepared-answers}
 use Rattle.sight.proofs.pair.run_pair.Statement.{statement}
 use Rattle.sight.proofs.pair.run_pair.Tie as tie
 
 abbrev Inv-loop : tie.InvT-loop
-Inv-loop size radius cells confirmed full p q start test block₀ i₀ block i = Running size radius cells p q (passes test) confirmed full start i block
+Inv-loop size radius cells confirmed full p q start test block₀ i₀ block i = Running size radius cells p q (prepared test) confirmed full start i block
 
 abbrev μ-loop : tie.MeasureT-loop
 μ-loop size radius cells confirmed full p q start test block₀ i₀ block i = length confirmed - i
@@ -22,7 +23,7 @@ long : (c : tie.After-new Inv-loop μ-loop) → length (c .before .before .befor
 long c = c .before .before .before .before .before .before .before .good .1 .1 .1 .1 .0 .1
 
 returns : tie.Need-returns Inv-loop μ-loop
-returns c = λ ch o order inside changes confirmedAre fullAre prepared e n.
+returns c = λ ch o order inside changes confirmedAre fullAre isProximity e n.
     let a = c .before .before .before .before .args in
     let none : length (a .confirmed .now) ≤ 0 = omega (arith, c .if1 .taken) in
     running-end (running-start (a .size) (a .radius) (a .cells .now) (a .p) (a .q) (λ k. tests (a .size) (a .radius) .near k (a .p) (a .q)) (a .confirmed .now) (a .full .now) (a .start)) none ch o
@@ -51,12 +52,12 @@ loop-again c =
     (c .if2 .came)
 
 returns-2 : tie.Need-returns-2 Inv-loop μ-loop
-returns-2 c = λ ch o order inside changes confirmedAre fullAre prepared e n.
+returns-2 c = λ ch o order inside changes confirmedAre fullAre isProximity e n.
     let m = c .before .before in
     let s = m .before in
     let a = m .before .before .before .before .before .before .before .args in
     running-end (c .before .loop .inv) (c .loop-test .left) ch o (record { order = order; inside = inside; changes = changes; confirmedAre = confirmedAre; fullAre = fullAre })
-    (passes-near (a .size) (a .radius) (a .p) (a .q) _ _ _ (a .proximity) (m .new .result) (s .before .centre .ensures) (s .centre2 .ensures) refl refl (m .new .ensures) prepared) e n
+    (prepared-answers (a .size) (a .radius) (a .p) (a .q) _ _ _ (a .proximity) (m .new .result) (s .before .centre .ensures) (s .centre2 .ensures) refl refl (m .new .ensures) isProximity) e n
 
 pub run-pair-spec : {M : Type 1} → statement M
 run-pair-spec =

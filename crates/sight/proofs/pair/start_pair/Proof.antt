@@ -3,7 +3,6 @@ use Prim.Native.Nat.{ℕ, _≤_}
 use native.Mathlib.Omega.{arith}
 use mathlib.Core.Path.{_≡_, sym, ap, _∙_}
 use mathlib.Core.Bool.{Bool, true, false}
-use mathlib.Core.Option.{Option}
 use borrow.Author.Needs.{needs}
 use Rattle.marks.specs.Standing.{Standing, mood, sooner}
 use Rattle.marks.specs.declared.mood.Mood.{Mood}

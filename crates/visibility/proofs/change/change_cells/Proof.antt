@@ -43,7 +43,7 @@ given p =
     let o = a .1 .1 .1 .1 .1 .1 in
     lentOf (a .0) (a .1 .0) (a .1 .1 .0) (a .1 .1 .1 .0) (a .1 .1 .1 .1 .0) (o .0) (o .1 .0) (o .1 .1 .0) (o .1 .1 .1 .0)
 
--- the refusal that is due by the input
+-- the refusal that applies by the input
 due : (j : tie.After-judge) →
     let a = start j .args in
     j .judge .result ≡ refuseBatch (short (lentNeeds (lent (start j)))) (a .map) (a .batch .now) (ltb maxCells (a .map .cells)) false

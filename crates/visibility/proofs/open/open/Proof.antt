@@ -1,4 +1,4 @@
--- `open::open`: the first refusal that is due, or cleared tables. Assumes nothing.
+-- `open::open`: the first refusal that applies, or cleared tables. Assumes nothing.
 use mathlib.Core.Path.{_≡_, sym, _∙_}
 use mathlib.Core.Bool.{false}
 use lib.Seq.{length-take-le}

@@ -1,4 +1,4 @@
--- `radius::change_radius`: the refusal that is due, or the layer built afresh for the radius. Assumes nothing.
+-- `radius::change_radius`: the refusal that applies, or the layer built anew for the radius. Assumes nothing.
 use Prim.Native.Nat.{_≤_}
 use native.Mathlib.Omega.{arith}
 use mathlib.Core.Path.{_≡_, refl, sym, _∙_}
