@@ -1,5 +1,5 @@
 // Replays the vectors on standard input: each line is a letter and six operands of sixteen digits, 104 bytes in all,
-// and comes back with four numbers behind it, in decimals. What the Rust answers is in the file stdout beside src/.
+// and comes back with four numbers after it, in decimals. What the Rust answers is in the file stdout beside src/.
 //
 // o  size: a new floor
 // e  x y o: one more entry of the batch, 0 for free or 1 for occupied
@@ -21,6 +21,9 @@ use replay::patterns::integer_at;
 use replay::questions::answer_place;
 use replay::questions::cell_at;
 use replay::questions::question_at;
+use sizes::BATCH;
+use sizes::CELLS;
+use sizes::CORNERS;
 use table::copy::clear;
 
 // The floor, the numbers of the batch so far, and whether there was a line.
@@ -45,10 +48,10 @@ fn look(line: &[u8], floor: Floor, cells: &[u64]) {
 
 // Returns the floor afterwards.
 fn change(line: &[u8], floor: Floor, cells: &mut [u64], batch: &[i64]) -> Floor {
-    let mut confirmed = [0u64; 256];
-    let mut full = [0u8; 256];
-    let mut corners = [0u64; 2304];
-    let mut statuses = [0u8; 2304];
+    let mut confirmed = [0u64; BATCH];
+    let mut full = [0u8; BATCH];
+    let mut corners = [0u64; CORNERS];
+    let mut statuses = [0u8; CORNERS];
     let r = change_cells(
         floor,
         cells,
@@ -130,7 +133,7 @@ fn obey(letter: u8, line: &[u8], state: State, cells: &mut [u64], batch: &mut [i
 }
 
 // One line, where there is one.
-fn replay(state: State, cells: &mut [u64; 1024], batch: &mut [i64; 900]) -> State {
+fn replay(state: State, cells: &mut [u64; CELLS], batch: &mut [i64; 900]) -> State {
     let mut line = [0u8; 104];
     if !replay::lines::read_line(&mut line) {
         let mut last = state;
@@ -142,7 +145,7 @@ fn replay(state: State, cells: &mut [u64; 1024], batch: &mut [i64; 900]) -> Stat
 
 // A proved loop has to end, and nothing says that the input does: the turns are counted down.
 fn main() {
-    let mut cells = [0u64; 1024];
+    let mut cells = [0u64; CELLS];
     let mut batch = [0i64; 900];
     let mut state = State {
         floor: Floor {

@@ -20,6 +20,10 @@ pub record Tables : Type 0 where
   pub blockers : List ℕ
   pub pairs : List ℕ
 
+-- five lists as a map's tables
+abbrev pub tablesOf : List ℕ → List ℕ → List ℕ → List ℕ → List ℕ → Tables
+tablesOf cells points statuses blockers pairs = record { cells = cells; points = points; statuses = statuses; blockers = blockers; pairs = pairs }
+
 -- all zero: what a refused call gives
 abbrev pub noMap : Map
 noMap = record { size = nought; radius = nought; cells = 0; points = 0 }
@@ -36,7 +40,7 @@ pub record Holds (m : Map) (t : Tables) (M : model.Map) : Type 0 where
   pub layer : HoldsLayer (t .points) (t .statuses) (t .blockers) (t .pairs) (m .points) (M .layer)
   pub good : Good (model.shiftOf (M .size) (M .layer .radius)) (M .cells) (M .layer)
 
--- what stands behind the fixed needs is untouched
+-- what is past the fixed needs is left as it was
 pub record Behind (t t′ : Tables) : Type 0 where
   pub cells : drop maxCells (t′ .cells) ≡ drop maxCells (t .cells)
   pub points : drop maxPoints (t′ .points) ≡ drop maxPoints (t .points)

@@ -31,7 +31,7 @@ edgeAt l i j =
     let e = edge (getD (keys (l .points)) i 0) (getD (keys (l .points)) j 0) (l .edges) in
     cond (ltb i n && ltb j n) e none
 
--- four tables hold the n points and the pairs of the layer l: zeros behind, up to the fixed need
+-- four tables hold the n points and the pairs of the layer l: the unused rest, up to the fixed need, is zero
 pub record HoldsLayer (points statuses blockers pairs : List ℕ) (n : ℕ) (l : Layer) : Type 0 where
   pub count : n ≡ length (l .points)
   pub room : length (l .points) ≤ maxPoints

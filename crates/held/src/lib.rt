@@ -1,2 +1,2 @@
-// What a map is: a small struct by value, and the lent tables that hold its cells, points and pairs. The calls on a map stand above.
+// What a map is: a small struct by value, and the lent tables that hold its cells, points and pairs. Other crates have the calls on a map.
 pub mod map;

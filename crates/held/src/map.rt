@@ -1,4 +1,4 @@
-// A map, whose cells, points and pairs stand in lent tables.
+// A map, whose cells, points and pairs are in lent tables.
 #[repr(C)]
 pub struct Map {
     pub size: f64,

@@ -75,20 +75,20 @@ ceil-byte n t U D e h k =
 
 module _ (x : Float) (low : le lowest x ≡ true) (high : le x highest ≡ true) where
   -- the sum that the code takes, its pattern, and what is left when the shifter is taken off
-  abbrev near : Float
-  near = add binary64 x shifter
+  abbrev rounded : Float
+  rounded = add binary64 x shifter
 
   abbrev bits : ℕ
-  bits = toBits binary64 near
+  bits = toBits binary64 rounded
 
   abbrev back : Float
-  back = sub binary64 near shifter
+  back = sub binary64 rounded shifter
 
   some : isNan x ≡ false
   some = le-some-right lowest x low
 
-  pub near-some : isNan near ≡ false
-  near-some = number-add x shifter some shifter-finite
+  pub rounded-some : isNan rounded ≡ false
+  rounded-some = number-add x shifter some shifter-finite
 
   pub bits-least : pattern (2 ^ 31) ≤ bits
   bits-least =

@@ -26,9 +26,9 @@ pub neg-sat : (q : ℕ) → sat (negℤ (pos q)) ≡ negℤ (pos (min q (2 ^ 63)
 neg-sat zero = refl
 neg-sat (suc q) = let h : suc (min q (2 ^ 63 - 1)) ≡ min (suc q) (2 ^ 63) = omega arith in ap (signed true) h
 
-pub sat-near : (s : Bool) (q : ℕ) → q < 2 ^ 63 → sat (signed s q) ≡ signed s q
-sat-near true q h = let k : min q (2 ^ 63) ≡ q = omega arith in neg-sat q ∙ ap (signed true) k
-sat-near false q h = let k : min q (2 ^ 63 - 1) ≡ q = omega arith in ap pos k
+pub sat-within : (s : Bool) (q : ℕ) → q < 2 ^ 63 → sat (signed s q) ≡ signed s q
+sat-within true q h = let k : min q (2 ^ 63) ≡ q = omega arith in neg-sat q ∙ ap (signed true) k
+sat-within false q h = let k : min q (2 ^ 63 - 1) ≡ q = omega arith in ap pos k
 
 pub sat-far : (s : Bool) (q : ℕ) → 2 ^ 63 ≤ q → sat (signed s q) ≡ satInf s
 sat-far true q h = let k : min q (2 ^ 63) ≡ 2 ^ 63 = omega arith in neg-sat q ∙ ap (signed true) k

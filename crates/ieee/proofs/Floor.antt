@@ -20,7 +20,7 @@ use mir.ValLaws.{toZ-ofZ}
 use borrow.Author.Tests.{lt-ltb, le-ltb, ne-eqb}
 use Rattle.ieee.specs.Whole.{ceilDiv, sat, satInf, floorZ, ceilZ}
 use Rattle.ieee.proofs.Tools.{lt-or-ge, held, lt-whole, whole-lt}
-use Rattle.ieee.proofs.Cut.{signed, sat-near, sat-far, cut-sat, edge, past, edge-test}
+use Rattle.ieee.proofs.Cut.{signed, sat-within, sat-far, cut-sat, edge, past, edge-test}
 
 -- ---- the whole part of a value that fits is a value of the format: `round` does not change it
 pub cut-exact : (t s : Bool) (m : ℕ) (e : ℤ) → T (fits binary64 (fin s m e)) → HasValue (round binary64 t (m * up e / down e) 1) t (m * up e / down e) 1
@@ -130,13 +130,13 @@ module _ (s : Bool) (m : ℕ) (e : ℤ) (f : T (fits binary64 (fin s m e))) wher
   y = ofInt binary64 t
 
   -- x against its cut, where nothing saturates
-  near : q < 2 ^ 63 → (past s x y ≡ ltb (q * c) a) × (past (not s) x y ≡ ltb a (q * c))
-  near h = rw (cut-sat s m e, sat-near s q h) (past-signed s m e q (cut-exact s s m e f))
+  within : q < 2 ^ 63 → (past s x y ≡ ltb (q * c) a) × (past (not s) x y ≡ ltb a (q * c))
+  within h = rw (cut-sat s m e, sat-within s q h) (past-signed s m e q (cut-exact s s m e f))
 
   -- toward zero x is never past its cut, so that the cut is the answer
   not-past-in : past (not s) x y ≡ false
   not-past-in =
-      ⊎-elim (λ h. near h .1 ∙ le-ltb a (q * c) (div-mul-le-self a c))
+      ⊎-elim (λ h. within h .1 ∙ le-ltb a (q * c) (div-mul-le-self a c))
       (λ h. rw (cut-sat s m e, sat-far s q h, edge-float s) (edge-test s m e ∙ le-ltb a (2 ^ 63 * c) (le-div-iff-mul-le (down-pos e) .0 h)))
       (lt-or-ge q (2 ^ 63))
 
@@ -149,15 +149,15 @@ module _ (s : Bool) (m : ℕ) (e : ℤ) (f : T (fits binary64 (fin s m e))) wher
     where
       still : (past s x y && free s t) ≡ false
       still =
-          ⊎-elim (λ h. rw (near h .0, le-ltb (q * c) a r)) (λ h. rw (cut-sat s m e, sat-far s q h, edge-free s, and-false)) (lt-or-ge q (2 ^ 63))
+          ⊎-elim (λ h. rw (within h .0, le-ltb (q * c) a r)) (λ h. rw (cut-sat s m e, sat-far s q h, edge-free s, and-false)) (lt-or-ge q (2 ^ 63))
 
   ends-rest : q * c < a → Ends s x t y (sat (signed s (ceilDiv a c)))
   ends-rest r =
       let l : q < 2 ^ 53 = rest-small m e (held s m e f .0) q refl r in
       let h : q < 2 ^ 63 = omega arith in
       let k : suc q < 2 ^ 63 = omega arith in
-      let i : t ≡ signed s q = cut-sat s m e ∙ sat-near s q h in
-      rw (near h .0, lt-ltb (q * c) a r, has-rest a c q (down-pos e) refl r, sat-near s (suc q) k, i, free-signed s q l, next-signed s q) (mag-signed s (suc q) k, refl)
+      let i : t ≡ signed s q = cut-sat s m e ∙ sat-within s q h in
+      rw (within h .0, lt-ltb (q * c) a r, has-rest a c q (down-pos e) refl r, sat-within s (suc q) k, i, free-signed s q l, next-signed s q) (mag-signed s (suc q) k, refl)
 
   ends-out : Ends s x t y (sat (signed s (ceilDiv a c)))
   ends-out = ⊎-elim ends-rest ends-whole (lt-or-ge (q * c) a)

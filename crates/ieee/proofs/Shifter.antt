@@ -91,30 +91,30 @@ shifted-back n h =
 
 -- ---- x between two whole numbers y and z: so is the sum's pattern, since adding keeps the order
 module _ (x y z : Float) (v w : ℕ) (vs : v ≤ 2 ^ 33) (ws : w ≤ 2 ^ 33) (yv : Is y v (2 ^ 32) 0) (zw : Is z w (2 ^ 32) 0) (low : le y x ≡ true) (high : le x z ≡ true) where
-  abbrev near : Float
-  near = add binary64 x shifter
+  abbrev rounded : Float
+  rounded = add binary64 x shifter
 
   step : (a b : Float) → le a b ≡ true → le (add binary64 a shifter) (add binary64 b shifter) ≡ true
   step a b h =
       add-mono a b shifter shifter h (le-self shifter (finite-number shifter shifter-finite)) (number-add a shifter (le-some-left a b h) shifter-finite) (number-add b shifter (le-some-right a b h) shifter-finite)
 
-  low-sum : le (ofBits binary64 (pattern v)) near ≡ true
-  low-sum = subst (λ (a : Float). le a near ≡ true) (shifted y v vs yv) (step y x low)
+  low-sum : le (ofBits binary64 (pattern v)) rounded ≡ true
+  low-sum = subst (λ (a : Float). le a rounded ≡ true) (shifted y v vs yv) (step y x low)
 
-  high-sum : le near (ofBits binary64 (pattern w)) ≡ true
-  high-sum = subst (λ (a : Float). le near a ≡ true) (shifted z w ws zw) (step x z high)
+  high-sum : le rounded (ofBits binary64 (pattern w)) ≡ true
+  high-sum = subst (λ (a : Float). le rounded a ≡ true) (shifted z w ws zw) (step x z high)
 
-  above : lt nought near ≡ true
+  above : lt nought rounded ≡ true
   above =
-      lt-le-trans nought (ofBits binary64 (pattern v)) near
+      lt-le-trans nought (ofBits binary64 (pattern v)) rounded
       (subst (λ (a : Float). lt a (ofBits binary64 (pattern v)) ≡ true) zero-is (lt-patterns 0 (pattern v) zero-le (omega arith) ∙ lt-ltb 0 (pattern v) (omega arith)))
       low-sum
 
-  pub between : (pattern v ≤ toBits binary64 near) × (toBits binary64 near ≤ pattern w)
+  pub between : (pattern v ≤ toBits binary64 rounded) × (toBits binary64 rounded ≤ pattern w)
   between =
-      let b = toBits binary64 near in
-      let r = above-range near (add-fits binary64 x shifter) above in
-      let e = ofBits-toBits binary64 near (add-fits binary64 x shifter) in (
+      let b = toBits binary64 rounded in
+      let r = above-range rounded (add-fits binary64 x shifter) above in
+      let e = ofBits-toBits binary64 rounded (add-fits binary64 x shifter) in (
         leb-true (pattern v) b (sym (le-patterns (pattern v) b (omega arith) r) ∙ subst (λ (a : Float). le (ofBits binary64 (pattern v)) a ≡ true) (sym e) low-sum),
         leb-true b (pattern w) (sym (le-patterns b (pattern w) r (omega arith)) ∙ subst (λ (a : Float). le a (ofBits binary64 (pattern w)) ≡ true) (sym e) high-sum),
       )

@@ -167,7 +167,7 @@ threshold-one b t u f g h k = go (isNan t) (isNan u) refl refl
     go false true p q = not-both q (le-some-left u t (at-most b t u f h k p))
     go false false p q = equal t u f g (h .unsigned) (k .unsigned) (at-most b u t g k h q) (at-most b t u f h k p)
 
--- ---- the code's steps: what `near` and `bisect` find is the threshold's pattern
+-- ---- the code's steps: what `from_guess` and `bisect` find is the threshold's pattern
 pub first-threshold : (b : Float) (r : ℕ) → T (fits binary64 b) → lt nought b ≡ true → Between b (r - 1) r → Threshold b (ofBits binary64 r)
 first-threshold b r f h c =
     let e : r - 1 + 1 ≡ r = omega arith in

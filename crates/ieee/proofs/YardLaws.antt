@@ -21,7 +21,7 @@ use Rattle.ieee.proofs.YardCells.{centre-parts, low-cell, high-cell}
 use Rattle.ieee.proofs.YardTests.{InYard, shift-exact}
 
 -- ---- the centre, at c = 2 ^ k
-module _ (k : ℕ) (n : ℤ) (K : k ≤ 10) (near : mag n ≤ 2 ^ 21) where
+module _ (k : ℕ) (n : ℤ) (K : k ≤ 10) (inside : mag n ≤ 2 ^ 21) where
   abbrev col : Float
   col = ofInt binary64 n
 
@@ -29,7 +29,7 @@ module _ (k : ℕ) (n : ℤ) (K : k ≤ 10) (near : mag n ≤ 2 ^ 21) where
   mid = twiceCentreZ (2 ^ k) n
 
   ends : (ups n ≤ 2 ^ 21) × (downs n ≤ 2 ^ 21 + 1)
-  ends = parts-mag n (2 ^ 21) near
+  ends = parts-mag n (2 ^ 21) inside
 
   middle : Is (add binary64 col half) (ups n * 2 + 1) (downs n * 2) 1
   middle =
@@ -71,17 +71,17 @@ half-width r R h v =
     (is-div 1 (mul binary64 (pow2 1) r) (R * 2) 0 0 (omega arith) (omega arith) (omega arith) (is-mul 1 r R 0 0 (omega arith) (omega arith) (omega arith) v))
 
 -- ---- in the class, at a column within 2 ^ 21 of 0. C is `wholeN c`, R is `wholeN r`
-module _ (c r : Float) (y : InYard c r) (n : ℤ) (near : mag n ≤ 2 ^ 21) where
+module _ (c r : Float) (y : InYard c r) (n : ℤ) (inside : mag n ≤ 2 ^ 21) where
   -- from 2 ^ k to c
   carry : (P : Float → ℕ → Type 0) → P (pow2 (y .k)) (2 ^ y .k) → P c (wholeN c)
   carry P h = subst (λ (x : ℕ). P c x) (sym (y .side)) (subst (λ (x : Float). P x (2 ^ y .k)) (sym (y .cell)) h)
 
   -- the centre is C (2 n + 1) / 2 exactly
   pub centre-exact : IsZ (centreF c (ofInt binary64 n)) (twiceCentreZ (wholeN c) n) 1
-  centre-exact = carry (λ x d. IsZ (centreF x (ofInt binary64 n)) (twiceCentreZ d n) 1) (mid-exact (y .k) n (y .most) near)
+  centre-exact = carry (λ x d. IsZ (centreF x (ofInt binary64 n)) (twiceCentreZ d n) 1) (mid-exact (y .k) n (y .most) inside)
 
   centre-small : Within (2 ^ 40) (twiceCentreZ (wholeN c) n)
-  centre-small = carry (λ x d. Within (2 ^ 40) (twiceCentreZ d n)) (mid-small (y .k) n (y .most) near)
+  centre-small = carry (λ x d. Within (2 ^ 40) (twiceCentreZ d n)) (mid-small (y .k) n (y .most) inside)
 
   -- the centre moved by w / 2, as a corner is, and the quotient by c
   module _ (h : Float) (w : ℤ) (p : Within (2 ^ 18) w) (i : IsZ h w 1) where
@@ -165,13 +165,13 @@ module _ (c r : Float) (y : InYard c r) where
 
 -- ---- columns as the tables hold them, within 2 ^ 21 of 2 ^ 31
 module _ (c r : Float) (y : InYard c r) (u : ℕ) (low : 2 ^ 31 - 2 ^ 21 ≤ u) (high : u ≤ 2 ^ 31 + 2 ^ 21) where
-  near : mag (unbias u) ≤ 2 ^ 21
-  near = unbias-mag u (2 ^ 21) (omega arith) high
+  inside : mag (unbias u) ≤ 2 ^ 21
+  inside = unbias-mag u (2 ^ 21) (omega arith) high
 
   -- the square's first cell is s - 1 columns before u, s being the shift
   pub low-column : biased (floorZ (lowF c r (ofInt binary64 (unbias u)))) ≡ u - (shiftN (wholeN c) (wholeN r) - 1)
   low-column =
-      ap biased (low-whole c r y (unbias u) near ∙ low-cell (wholeN c) (wholeN r) (unbias u) (side-pos c r y))
+      ap biased (low-whole c r y (unbias u) inside ∙ low-cell (wholeN c) (wholeN r) (unbias u) (side-pos c r y))
       ∙ go (shiftN (wholeN c) (wholeN r)) (ups (unbias u)) (downs (unbias u)) (y .shift) (unbias-parts u) (less-parts (unbias u) (pos (shiftN (wholeN c) (wholeN r) - 1)))
     where
       go : (s p q : ℕ) → s ≤ 64 → p + 2 ^ 31 ≡ q + u
@@ -181,7 +181,7 @@ module _ (c r : Float) (y : InYard c r) (u : ℕ) (low : 2 ^ 31 - 2 ^ 21 ≤ u) 
   -- the cell past its last is s columns after u
   pub high-column : biased (ceilZ (highF c r (ofInt binary64 (unbias u)))) ≡ u + shiftN (wholeN c) (wholeN r)
   high-column =
-      ap biased (high-whole c r y (unbias u) near ∙ high-cell (wholeN c) (wholeN r) (unbias u) (side-pos c r y))
+      ap biased (high-whole c r y (unbias u) inside ∙ high-cell (wholeN c) (wholeN r) (unbias u) (side-pos c r y))
       ∙ go (shiftN (wholeN c) (wholeN r)) (ups (unbias u)) (downs (unbias u)) (y .shift) (unbias-parts u) (add-parts (unbias u) (pos (shiftN (wholeN c) (wholeN r))))
     where
       go : (s p q : ℕ) → s ≤ 64 → p + 2 ^ 31 ≡ q + u

@@ -42,6 +42,7 @@ unfolding add div
 shiftF c r = add binary64 (div binary64 r c) half
 
 -- ---- the class, as tests on f64 values: c is 2, 4, .. or 2 ^ k, and r is its own floor; with what every accepted radius has (document 01, the bounds): not below zero, shift at most 64
+-- (the model's `maxShift`, Limits.antt, which is above this crate)
 unfoldable pub isPower : ℕ → Float → Bool
 isPower zero c = false
 isPower (suc k) c = eq c (pow2 (suc k)) || isPower k c

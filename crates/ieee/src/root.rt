@@ -65,7 +65,7 @@ fn root_checked(m: u64, c: u64) -> u64
     if c * 5 + 6 < f {
         return root_slow(m);
     }
-    // two sums and no branch: which of the three it is cannot be foretold
+    // two sums and no branch: which of the three it is cannot be predicted
     let mut r = c;
     if c < f {
         r += 1;
@@ -114,7 +114,7 @@ fn root_positive(b: u64) -> f64
     ensures { λ r. ⌜ r ≡ rootUnits (bitUnits b) ⌝ }
 {
     if b < 4503599627370496 {
-        // no leading digit is understood: as many zeros as stand above b's first digit are moved
+        // no leading digit is understood: as many zeros as are above b's first digit are moved
         // below its last
         let z = u64::leading_zeros(b) as u64;
         return root_scaled(b << (z - 11), 1033 - z);

@@ -19,8 +19,8 @@ fn reaches(b: f64, n: u64) -> bool
     b <= root::root(f64::from_bits(n))
 }
 
-// The first pattern whose root is at least b, where that is n or n + 1, and 0 elsewhere.
-fn near(b: f64, n: u64) -> u64
+// The first pattern whose root is at least b, where that is the guess n or n + 1, and 0 elsewhere.
+fn from_guess(b: f64, n: u64) -> u64
     ensures { λ r. ⌜ (0 < r → Between b (r - 1) r) ⌝ }
 {
     if 9218868437227405312 < n {
@@ -76,7 +76,7 @@ pub fn root_threshold(b: f64) -> f64
     }
     let q = b * f64::from_bits(f64::to_bits(b) - 1);
     if q >= 0.0 {
-        let n = near(b, f64::to_bits(q));
+        let n = from_guess(b, f64::to_bits(q));
         if 0 < n {
             return f64::from_bits(n);
         }

@@ -60,7 +60,7 @@ pub fn bias(n: i64) -> u64
 }
 
 // 1.5 * 2^52: where it is added to a number below 2^51 in size, that number is rounded to a whole one,
-// which stands in the low bits of the sum.
+// which is then in the low bits of the sum.
 const SHIFTER: f64 = 6755399441055744.0;
 
 // The sum's bits at the first column, -2^31.
@@ -84,9 +84,9 @@ pub fn column_of(x: f64) -> u64
     ensures { λ r. ⌜ r ≡ biased (floorZ x) ⌝ }
 {
     if -2147483648.0 <= x && x <= 2147483647.0 {
-        let near = x + SHIFTER;
-        let n = f64::to_bits(near) - FIRST;
-        return n - (x < near - SHIFTER) as u64;
+        let rounded = x + SHIFTER;
+        let n = f64::to_bits(rounded) - FIRST;
+        return n - (x < rounded - SHIFTER) as u64;
     }
     column_beyond(x)
 }
@@ -96,9 +96,9 @@ pub fn column_up(x: f64) -> u64
     ensures { λ r. ⌜ r ≡ biased (ceilZ x) ⌝ }
 {
     if -2147483648.0 <= x && x <= 2147483647.0 {
-        let near = x + SHIFTER;
-        let n = f64::to_bits(near) - FIRST;
-        return n + (near - SHIFTER < x) as u64;
+        let rounded = x + SHIFTER;
+        let n = f64::to_bits(rounded) - FIRST;
+        return n + (rounded - SHIFTER < x) as u64;
     }
     column_beyond(x)
 }

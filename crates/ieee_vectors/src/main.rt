@@ -1,5 +1,5 @@
 // Replays the vectors on standard input: each line is a letter for the function and two operands as
-// bit patterns, 36 bytes in all, and comes back with the answer's pattern behind it. What Rust's own
+// bit patterns, 36 bytes in all, and comes back with the answer's pattern after it. What Rust's own
 // functions answer is in the file stdout beside src/.
 use libc::STDOUT_FILENO;
 use replay::patterns::float_at;

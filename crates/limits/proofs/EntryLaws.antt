@@ -10,7 +10,7 @@ use lib.Signed.{leZ, ltZ}
 use lib.ListN.{length, drop, getD, length-drop}
 use lib.Seq.{getD-drop, drop-drop}
 use borrow.Author.Tests.{lt-ltb, le-ltb, eq-eqb, ne-eqb}
-use Rattle.model.specs.Limits.{maxCoordinate}
+use Rattle.model.specs.Limits.{maxBatch, maxCoordinate}
 use Rattle.model.specs.Map.{Entry}
 use Rattle.model.specs.Refusal.{firstOf, offMap, outside, unsorted}
 use Rattle.limits.specs.Batches.{entries, isFull, ragged, refuseBatch}
@@ -87,14 +87,14 @@ pub whole-is : (b : List ℤ) → length b % 3 ≡ 0 → ragged b ≡ false
 unfolding ragged
 whole-is b h = rw (eq-eqb (length b % 3) 0 h) refl
 
-pub refuse-long : (b : List ℤ) → 256 < length b / 3 → refuseBatch b ≡ 3
+pub refuse-long : (b : List ℤ) → maxBatch < length b / 3 → refuseBatch b ≡ 3
 unfolding refuseBatch firstOf
-refuse-long b h = rw (entries-length b, lt-ltb 256 (length b / 3) h)
+refuse-long b h = rw (entries-length b, lt-ltb maxBatch (length b / 3) h)
 
-pub refuse-ragged : (b : List ℤ) → length b / 3 ≤ 256 → (length b % 3 ≡ 0 → ⊥) → refuseBatch b ≡ 4
+pub refuse-ragged : (b : List ℤ) → length b / 3 ≤ maxBatch → (length b % 3 ≡ 0 → ⊥) → refuseBatch b ≡ 4
 unfolding refuseBatch firstOf
-refuse-ragged b h g = rw (entries-length b, le-ltb 256 (length b / 3) h, ragged-is b g)
+refuse-ragged b h g = rw (entries-length b, le-ltb maxBatch (length b / 3) h, ragged-is b g)
 
-pub refuse-short : (b : List ℤ) (d o : Bool) → length b / 3 ≤ 256 → length b % 3 ≡ 0 → d ≡ unsorted (entries b) → o ≡ outside (entries b) → refuseBatch b ≡ cond d 4 (cond o 5 0)
+pub refuse-short : (b : List ℤ) (d o : Bool) → length b / 3 ≤ maxBatch → length b % 3 ≡ 0 → d ≡ unsorted (entries b) → o ≡ outside (entries b) → refuseBatch b ≡ cond d 4 (cond o 5 0)
 unfolding refuseBatch firstOf
-refuse-short b d o h g p q = rw (entries-length b, le-ltb 256 (length b / 3) h, whole-is b g, p, q)
+refuse-short b d o h g p q = rw (entries-length b, le-ltb maxBatch (length b / 3) h, whole-is b g, p, q)

@@ -55,5 +55,5 @@ writes v (e ∷ b) C = writes v b (cond (Bool·beq (e .1) v) (write (e .0) v C) 
 
 -- the table t with n keys became t′ with r keys: those entries of the listed batch that say v were written, where they fit
 abbrev pub Written : Bool → List ℕ → List ℕ → List ℕ → ℕ → List ℕ → ℕ → Type 0
-Written v turned full t n t′ r =
-    (b : Batch) → turned ≡ keys b → full ≡ values (flags b) → Table t n → length (writes v b (take n t)) ≤ length t → Table t′ r × (take r t′ ≡ writes v b (take n t))
+Written v confirmed full t n t′ r =
+    (b : Batch) → confirmed ≡ keys b → full ≡ values (flags b) → Table t n → length (writes v b (take n t)) ≤ length t → Table t′ r × (take r t′ ≡ writes v b (take n t))

@@ -8,7 +8,7 @@ use Rattle.model.specs.Limits.{maxCells, maxCoordinate}
 use Rattle.model.specs.Maps.{AscL}
 use Rattle.table.specs.Tables.{All, pad}
 
--- the table t, of which n places are used, holds the cells C: ascending, within the batch coordinates, zeros behind them up to the fixed need
+-- the table t, of which n places are used, holds the cells C: ascending, within the batch coordinates, the unused rest, up to the fixed need, zero
 pub record Holds (t : List ℕ) (n : ℕ) (C : List ℕ) : Type 0 where
   pub table : t ≡ pad maxCells C ++ drop maxCells t
   pub count : n ≡ length C

@@ -1,4 +1,5 @@
 // `Cell`, as the border has it, and as a key, which is what the tables hold.
+use sizes::COLUMN;
 ghost use mathlib.Core.Path.{_≡_};
 ghost use Rattle.model.specs.Cell.{key, xOf, yOf};
 ghost use Rattle.model.specs.Maps.{AscL, has};
@@ -15,15 +16,15 @@ impl Cell {
     pub fn key(self) -> u64
         ensures { λ r. ⌜ r ≡ key (self .x) (self .y) ⌝ }
     {
-        ieee::whole::bias(self.x) * 4294967296 + ieee::whole::bias(self.y)
+        ieee::whole::bias(self.x) * COLUMN + ieee::whole::bias(self.y)
     }
 
     pub fn of_key(k: u64) -> Cell
         ensures { λ r. ⌜ (r .x ≡ xOf k) × (r .y ≡ yOf k) ⌝ }
     {
         Cell {
-            x: (k / 4294967296) as i64 - 2147483648,
-            y: (k % 4294967296) as i64 - 2147483648,
+            x: (k / COLUMN) as i64 - 2147483648,
+            y: (k % COLUMN) as i64 - 2147483648,
         }
     }
 }

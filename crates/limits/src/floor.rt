@@ -1,4 +1,4 @@
-// The floor: a cell size, and how many cells are occupied. The cells themselves stand in a lent table, the first
+// The floor: a cell size, and how many cells are occupied. The cells themselves are in a lent table, in the first
 // 1,024 places of it.
 pub struct Floor {
     pub size: f64,

@@ -1,4 +1,7 @@
 // What is refused before a batch is tried (document 01, refusals 1, 3, 4 and 5).
+use sizes::BATCH;
+use sizes::LEAST_COORDINATE;
+use sizes::MOST_COORDINATE;
 ghost use mathlib.Core.Path.{_≡_};
 ghost use mathlib.Core.Bool.{_&&_, _||_};
 ghost use lib.Signed.{leZ, ltZ};
@@ -33,10 +36,10 @@ fn before(ax: i64, ay: i64, bx: i64, by: i64) -> bool
 fn off_map(z: i64) -> bool
     ensures { λ r. ⌜ r ≡ offMap maxCoordinate z ⌝ }
 {
-    if z < -1048576 {
+    if z < LEAST_COORDINATE {
         return true;
     }
-    1048576 < z
+    MOST_COORDINATE < z
 }
 
 // 4: whether some entry does not come after the one before it. An entry is three numbers, x, y, and 0 for free
@@ -76,7 +79,7 @@ fn outside(batch: &[i64]) -> bool
 pub fn refuse_batch(batch: &[i64]) -> u8
     ensures { λ r. ⌜ r ≡ refuseBatch (now (batch .entry)) ⌝ }
 {
-    if 256 < batch.len() / 3 {
+    if BATCH < batch.len() / 3 {
         return 3;
     }
     if batch.len() % 3 != 0 {

@@ -1,4 +1,4 @@
-// What is refused of a cell size and a batch before anything is tried.
+// Cells as keys, whether one is occupied, and what is refused of a cell size, a radius and a batch.
 pub mod cell;
 pub mod floor;
 pub mod judge;

@@ -1,4 +1,5 @@
-// What is refused of a radius (document 01, refusal 2), and how far it reaches.
+// What is refused of a radius (document 01, refusal 2), its shift and its reach.
+use sizes::SHIFT;
 ghost use mathlib.Core.Path.{_≡_};
 ghost use Rattle.model.specs.Cell.{reach};
 ghost use Rattle.model.specs.Map.{shiftOf};
@@ -9,7 +10,7 @@ pub fn bad_radius(size: f64, radius: f64) -> bool
     ensures { λ r. ⌜ r ≡ badRadius size radius ⌝ }
 {
     if 0.0 <= radius && radius < f64::from_bits(9218868437227405312) {
-        return 64 < ieee::whole::ceil_to_i64(radius / size + 0.5);
+        return SHIFT < ieee::whole::ceil_to_i64(radius / size + 0.5);
     }
     true
 }
@@ -22,7 +23,7 @@ pub fn shift_of(size: f64, radius: f64) -> u64
     if s < 0 { 0 } else { s as u64 }
 }
 
-// How far a cell of the shift s blocks a point.
+// How many cells away a changed cell can matter for a point.
 pub fn reach_of(s: u64) -> u64
     ensures { λ r. ⌜ r ≡ reach s ⌝ }
 {

@@ -1,9 +1,11 @@
-// Lists the map files of the folder that it is run in, 0000, 0001 and so on to the last, each as `listing` lists its input, and through the shortest buffer that
-// will do. An empty line follows each listing. What the Rust with ordered maps gives is in the file stdout beside src/, and behind it what is told of a folder,
-// which opens and cannot be read, and of a descriptor that is open for reading only.
+// Lists the map files of the folder that it is run in, 0000, 0001 and so on to the last, each as `listing` lists its input, and through
+// the shortest buffer that will do. An empty line follows each listing. What the Rust with ordered maps gives is in the file stdout
+// beside src/, and after it what is told of a folder, which opens and cannot be read, and of a descriptor that is open for reading only.
 use intake::output::Put;
 use intake::output::show_input;
 use libc::STDOUT_FILENO;
+use sizes::LISTING;
+use sizes::WINDOW;
 ghost use mathlib.Core.Path.{_≡_};
 ghost use Prim.Native.Nat.{_%_, _+_};
 ghost use Rattle.listing_vectors.specs.Names.{nameOf};
@@ -60,8 +62,8 @@ fn list_nowhere(buffer: &mut [u8], out: &mut [u8]) {
 }
 
 fn main() {
-    let mut buffer = [0u8; 2307];
-    let mut out = [0u8; 166656];
+    let mut buffer = [0u8; WINDOW];
+    let mut out = [0u8; LISTING];
     list_all(&mut buffer[..], &mut out[..]);
     list_file(b".", &mut buffer[..], &mut out[..]);
     list_nowhere(&mut buffer[..], &mut out[..]);

@@ -1,6 +1,7 @@
 // Which cells a point may see (document 01, 'Points').
 use corner::bits::Corner;
 use corner::bits::CornerStatus;
+use sizes::COLUMN;
 ghost use mathlib.Core.Path.{_≡_};
 ghost use Rattle.corner.specs.Weights.{dir};
 ghost use Rattle.model.specs.Corner.{Bits, number, quadrant, sees};
@@ -9,8 +10,8 @@ ghost use Rattle.model.specs.Corner.{Bits, number, quadrant, sees};
 fn quadrant(p: u64, q: u64) -> Corner
     ensures { λ r. ⌜ dir r ≡ quadrant p q ⌝ }
 {
-    let north = p % 4294967296 < q % 4294967296;
-    if p / 4294967296 < q / 4294967296 {
+    let north = p % COLUMN < q % COLUMN;
+    if p / COLUMN < q / COLUMN {
         if north {
             return Corner::Northeast;
         }
@@ -26,10 +27,10 @@ fn quadrant(p: u64, q: u64) -> Corner
 pub fn sees(p: u64, q: u64, status: u8) -> bool
     ensures { λ r. ⌜ ((b : Bits) → status ≡ number b → r ≡ sees p q b) ⌝ }
 {
-    if p / 4294967296 == q / 4294967296 {
+    if p / COLUMN == q / COLUMN {
         return true;
     }
-    if p % 4294967296 == q % 4294967296 {
+    if p % COLUMN == q % COLUMN {
         return true;
     }
     let bits = CornerStatus { bits: status };

@@ -1,4 +1,4 @@
-// The lines that alter a map. Each comes back with its answer's numbers behind it, in decimals:
+// The lines that alter a map. Each comes back with its answer's numbers after it, in decimals:
 //
 // o  size radius: a new map: refusal, cells, points
 // +  x y, -  x y: one more entry of the batch, that the cell be occupied, or free: no number
@@ -14,6 +14,11 @@ use replay::change::write_changes;
 use replay::lines::answer;
 use replay::patterns::float_at;
 use replay::patterns::integer_at;
+use sizes::BATCH;
+use sizes::CELLS;
+use sizes::CORNERS;
+use sizes::PAIRS;
+use sizes::POINTS;
 use visibility::change::Changed;
 use visibility::change::change_cells;
 use visibility::open::open;
@@ -81,11 +86,11 @@ fn answer_batch(line: &[u8], r: Changed) {
 pub(crate) fn begin(
     line: &[u8],
     state: State,
-    cells: &mut [u64; 1024],
-    points: &mut [u64; 64],
-    statuses: &mut [u8; 64],
-    blockers: &mut [u64; 64],
-    pairs: &mut [u64; 4096],
+    cells: &mut [u64; CELLS],
+    points: &mut [u64; POINTS],
+    statuses: &mut [u8; POINTS],
+    blockers: &mut [u64; POINTS],
+    pairs: &mut [u64; PAIRS],
 ) -> State {
     let size = float_at(line, 2);
     let radius = float_at(line, 19);
@@ -115,10 +120,10 @@ pub(crate) fn add(line: &[u8], state: State, batch: &mut [i64; 900], full: i64) 
 fn tell_changes(
     line: &[u8],
     r: Changed,
-    confirmed: &[u64; 256],
-    full: &[u8; 256],
-    corners: &[u64; 2304],
-    altered: &[u8; 2304],
+    confirmed: &[u64; BATCH],
+    full: &[u8; BATCH],
+    corners: &[u64; CORNERS],
+    altered: &[u8; CORNERS],
 ) {
     answer_batch(line, r);
     write_changes(b"= ", confirmed, full, r.confirmed);
@@ -129,17 +134,17 @@ fn tell_changes(
 fn change(
     line: &[u8],
     map: Map,
-    cells: &mut [u64; 1024],
-    points: &mut [u64; 64],
-    statuses: &mut [u8; 64],
-    blockers: &mut [u64; 64],
-    pairs: &mut [u64; 4096],
+    cells: &mut [u64; CELLS],
+    points: &mut [u64; POINTS],
+    statuses: &mut [u8; POINTS],
+    blockers: &mut [u64; POINTS],
+    pairs: &mut [u64; PAIRS],
     batch: &[i64],
 ) -> Map {
-    let mut confirmed = [0u64; 256];
-    let mut full = [0u8; 256];
-    let mut corners = [0u64; 2304];
-    let mut altered = [0u8; 2304];
+    let mut confirmed = [0u64; BATCH];
+    let mut full = [0u8; BATCH];
+    let mut corners = [0u64; CORNERS];
+    let mut altered = [0u8; CORNERS];
     let r = change_cells(
         map,
         cells,
@@ -162,11 +167,11 @@ fn change(
 pub(crate) fn commit(
     line: &[u8],
     state: State,
-    cells: &mut [u64; 1024],
-    points: &mut [u64; 64],
-    statuses: &mut [u8; 64],
-    blockers: &mut [u64; 64],
-    pairs: &mut [u64; 4096],
+    cells: &mut [u64; CELLS],
+    points: &mut [u64; POINTS],
+    statuses: &mut [u8; POINTS],
+    blockers: &mut [u64; POINTS],
+    pairs: &mut [u64; PAIRS],
     batch: &[i64],
 ) -> State {
     let map = state.map;
@@ -191,11 +196,11 @@ pub(crate) fn commit(
 pub(crate) fn set_radius(
     line: &[u8],
     state: State,
-    cells: &[u64; 1024],
-    points: &mut [u64; 64],
-    statuses: &mut [u8; 64],
-    blockers: &mut [u64; 64],
-    pairs: &mut [u64; 4096],
+    cells: &[u64; CELLS],
+    points: &mut [u64; POINTS],
+    statuses: &mut [u8; POINTS],
+    blockers: &mut [u64; POINTS],
+    pairs: &mut [u64; PAIRS],
 ) -> State {
     let map = state.map;
     let radius = float_at(line, 2);

@@ -16,10 +16,19 @@ use answers::points::all_points;
 use answers::points::free_points;
 use held::map::Map;
 use replay::change::write_changes;
+use sizes::CELLS;
+use sizes::LISTED;
+use sizes::PAIRS;
+use sizes::POINTS;
 
 // Writes the first `count` pairs.
-fn write_pairs(lesser: &[u64; 2016], greater: &[u64; 2016], blocks: &[u64; 2016], count: usize) {
-    if 2016 < count {
+fn write_pairs(
+    lesser: &[u64; LISTED],
+    greater: &[u64; LISTED],
+    blocks: &[u64; LISTED],
+    count: usize,
+) {
+    if LISTED < count {
         return;
     }
     let mut i = 0;
@@ -29,16 +38,16 @@ fn write_pairs(lesser: &[u64; 2016], greater: &[u64; 2016], blocks: &[u64; 2016]
     }
 }
 
-fn list_cells(line: &[u8], map: Map, cells: &[u64; 1024]) {
-    let mut out = [0u64; 1024];
+fn list_cells(line: &[u8], map: Map, cells: &[u64; CELLS]) {
+    let mut out = [0u64; CELLS];
     let r = occupied_cells(map, cells, &mut out);
     answer_count(line, r);
     write_cells(&out, r.count);
 }
 
-fn list_corners(line: &[u8], map: Map, cells: &[u64; 1024]) {
-    let mut out = [0u64; 1024];
-    let mut statuses = [0u8; 1024];
+fn list_corners(line: &[u8], map: Map, cells: &[u64; CELLS]) {
+    let mut out = [0u64; CELLS];
+    let mut statuses = [0u8; CELLS];
     let r = corner_cells(map, cells, &mut out, &mut statuses);
     answer_count(line, r);
     write_changes(b"^ ", &out, &statuses, r.count);
@@ -47,13 +56,13 @@ fn list_corners(line: &[u8], map: Map, cells: &[u64; 1024]) {
 fn list_points(
     line: &[u8],
     map: Map,
-    points: &[u64; 64],
-    statuses: &[u8; 64],
-    blockers: &[u64; 64],
+    points: &[u64; POINTS],
+    statuses: &[u8; POINTS],
+    blockers: &[u64; POINTS],
 ) {
-    let mut out = [0u64; 64];
-    let mut bits = [0u8; 64];
-    let mut blocks = [0u64; 64];
+    let mut out = [0u64; POINTS];
+    let mut bits = [0u8; POINTS];
+    let mut blocks = [0u64; POINTS];
     let r = all_points(
         map,
         points,
@@ -67,40 +76,46 @@ fn list_points(
     write_points(r.count, &out, &bits, &blocks);
 }
 
-fn list_free(line: &[u8], map: Map, points: &[u64; 64], blockers: &[u64; 64]) {
-    let mut out = [0u64; 64];
+fn list_free(line: &[u8], map: Map, points: &[u64; POINTS], blockers: &[u64; POINTS]) {
+    let mut out = [0u64; POINTS];
     let r = free_points(map, points, blockers, &mut out);
     answer_count(line, r);
     write_cells(&out, r.count);
 }
 
-fn list_pairs(line: &[u8], map: Map, points: &[u64; 64], pairs: &[u64; 4096]) {
-    let mut lesser = [0u64; 2016];
-    let mut greater = [0u64; 2016];
-    let mut blocks = [0u64; 2016];
+fn list_pairs(line: &[u8], map: Map, points: &[u64; POINTS], pairs: &[u64; PAIRS]) {
+    let mut lesser = [0u64; LISTED];
+    let mut greater = [0u64; LISTED];
+    let mut blocks = [0u64; LISTED];
     let r = all_pairs(map, points, pairs, &mut lesser, &mut greater, &mut blocks);
     answer_count(line, r);
     write_pairs(&lesser, &greater, &blocks, r.count);
 }
 
 // Nothing blocks them.
-fn list_open(line: &[u8], map: Map, points: &[u64; 64], blockers: &[u64; 64], pairs: &[u64; 4096]) {
-    let mut lesser = [0u64; 2016];
-    let mut greater = [0u64; 2016];
+fn list_open(
+    line: &[u8],
+    map: Map,
+    points: &[u64; POINTS],
+    blockers: &[u64; POINTS],
+    pairs: &[u64; PAIRS],
+) {
+    let mut lesser = [0u64; LISTED];
+    let mut greater = [0u64; LISTED];
     let r = open_pairs(map, points, blockers, pairs, &mut lesser, &mut greater);
     answer_count(line, r);
-    write_pairs(&lesser, &greater, &[0; 2016], r.count);
+    write_pairs(&lesser, &greater, &[0; LISTED], r.count);
 }
 
 pub(crate) fn tell_list(
     letter: u8,
     line: &[u8],
     map: Map,
-    cells: &[u64; 1024],
-    points: &[u64; 64],
-    statuses: &[u8; 64],
-    blockers: &[u64; 64],
-    pairs: &[u64; 4096],
+    cells: &[u64; CELLS],
+    points: &[u64; POINTS],
+    statuses: &[u8; POINTS],
+    blockers: &[u64; POINTS],
+    pairs: &[u64; PAIRS],
 ) {
     match letter {
         b'O' => list_cells(line, map, cells),

@@ -1,5 +1,5 @@
 // Replays the vectors on standard input: each line is a letter and its operands of sixteen digits, and comes back with its
-// answer's numbers behind it, in decimals. What the Rust answers is in the file stdout beside src/. The lines that alter the map
+// answer's numbers after it, in decimals. What the Rust answers is in the file stdout beside src/. The lines that alter the map
 // are those of `call`; those of `tables`, `query` and `list` leave it as it is.
 mod call;
 mod line;
@@ -21,6 +21,9 @@ use query::find;
 use query::look;
 use query::see;
 use query::step;
+use sizes::CELLS;
+use sizes::PAIRS;
+use sizes::POINTS;
 use tables::tell_tables;
 
 // A question, a list or the tables.
@@ -28,11 +31,11 @@ fn tell(
     letter: u8,
     line: &[u8],
     state: State,
-    cells: &[u64; 1024],
-    points: &[u64; 64],
-    statuses: &[u8; 64],
-    blockers: &[u64; 64],
-    pairs: &[u64; 4096],
+    cells: &[u64; CELLS],
+    points: &[u64; POINTS],
+    statuses: &[u8; POINTS],
+    blockers: &[u64; POINTS],
+    pairs: &[u64; PAIRS],
 ) {
     let map = state.map;
     let told = state.told;
@@ -51,11 +54,11 @@ fn obey(
     letter: u8,
     line: &[u8],
     state: State,
-    cells: &mut [u64; 1024],
-    points: &mut [u64; 64],
-    statuses: &mut [u8; 64],
-    blockers: &mut [u64; 64],
-    pairs: &mut [u64; 4096],
+    cells: &mut [u64; CELLS],
+    points: &mut [u64; POINTS],
+    statuses: &mut [u8; POINTS],
+    blockers: &mut [u64; POINTS],
+    pairs: &mut [u64; PAIRS],
     batch: &mut [i64; 900],
 ) -> State {
     match letter {
@@ -83,11 +86,11 @@ fn obey(
 // One line, where there is one.
 fn replay(
     state: State,
-    cells: &mut [u64; 1024],
-    points: &mut [u64; 64],
-    statuses: &mut [u8; 64],
-    blockers: &mut [u64; 64],
-    pairs: &mut [u64; 4096],
+    cells: &mut [u64; CELLS],
+    points: &mut [u64; POINTS],
+    statuses: &mut [u8; POINTS],
+    blockers: &mut [u64; POINTS],
+    pairs: &mut [u64; PAIRS],
     batch: &mut [i64; 900],
 ) -> State {
     let mut line = [0u8; 87];
@@ -110,11 +113,11 @@ fn replay(
 
 // A proved loop has to end, and nothing says that the input does: the turns are counted down.
 fn main() {
-    let mut cells = [0u64; 1024];
-    let mut points = [0u64; 64];
-    let mut statuses = [0u8; 64];
-    let mut blockers = [0u64; 64];
-    let mut pairs = [0u64; 4096];
+    let mut cells = [0u64; CELLS];
+    let mut points = [0u64; POINTS];
+    let mut statuses = [0u8; POINTS];
+    let mut blockers = [0u64; POINTS];
+    let mut pairs = [0u64; PAIRS];
     let mut batch = [0i64; 900];
     let mut state = start();
     let mut turns = u64::MAX;

@@ -14,15 +14,18 @@ use replay::lines::answer;
 use replay::questions::answer_place;
 use replay::questions::cell_at;
 use replay::questions::question_at;
+use sizes::CELLS;
+use sizes::PAIRS;
+use sizes::POINTS;
 use views::neighbours::neighbours;
 use views::visibility_from::visibility_from;
 
-pub(crate) fn look(line: &[u8], map: Map, cells: &[u64; 1024]) {
+pub(crate) fn look(line: &[u8], map: Map, cells: &[u64; CELLS]) {
     let t = is_occupied(map, cells, cell_at(line));
     answer(line, &[t.refusal as u64, t.yes as u64]);
 }
 
-pub(crate) fn find(letter: u8, line: &[u8], map: Map, cells: &[u64; 1024]) {
+pub(crate) fn find(letter: u8, line: &[u8], map: Map, cells: &[u64; CELLS]) {
     let a = ask(map, cells, question_at(letter, line));
     answer_place(line, a);
 }
@@ -30,13 +33,13 @@ pub(crate) fn find(letter: u8, line: &[u8], map: Map, cells: &[u64; 1024]) {
 pub(crate) fn see(
     line: &[u8],
     map: Map,
-    cells: &[u64; 1024],
-    points: &[u64; 64],
-    statuses: &[u8; 64],
-    blockers: &[u64; 64],
-    pairs: &[u64; 4096],
+    cells: &[u64; CELLS],
+    points: &[u64; POINTS],
+    statuses: &[u8; POINTS],
+    blockers: &[u64; POINTS],
+    pairs: &[u64; PAIRS],
 ) {
-    let mut out = [0u64; 64];
+    let mut out = [0u64; POINTS];
     let cell = cell_at(line);
     let r = visibility_from(
         map,
@@ -52,8 +55,8 @@ pub(crate) fn see(
     write_cells(&out, r.count);
 }
 
-pub(crate) fn step(line: &[u8], map: Map, cells: &[u64; 1024]) {
-    let mut out = [0u64; 64];
+pub(crate) fn step(line: &[u8], map: Map, cells: &[u64; CELLS]) {
+    let mut out = [0u64; POINTS];
     let r = neighbours(map, cells, cell_at(line), &mut out);
     answer_count(line, r);
     write_cells(&out, r.count);

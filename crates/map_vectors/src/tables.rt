@@ -6,7 +6,10 @@ use crate::write::write_pair;
 use crate::write::write_points;
 use held::map::Map;
 use replay::lines::answer;
+use sizes::PAIRS;
+use sizes::POINTS;
 ghost use Prim.Native.Nat.{_<_, _≤_};
+ghost use Rattle.held.specs.Pairs.{maxPoints};
 
 // A pair as the lesser point's row has it, and as the greater's has it, 0 for no pair.
 fn write_both(lesser: u64, greater: u64, there: u64, back: u64) {
@@ -20,18 +23,23 @@ fn write_both(lesser: u64, greater: u64, there: u64, back: u64) {
 }
 
 // A point's pairs with those that are not less. None has one with itself.
-fn write_row(i: usize, count: usize, points: &[u64; 64], pairs: &[u64; 4096])
-    requires { ⌜ (i < count) × (count ≤ 64) ⌝ }
+fn write_row(i: usize, count: usize, points: &[u64; POINTS], pairs: &[u64; PAIRS])
+    requires { ⌜ (i < count) × (count ≤ maxPoints) ⌝ }
 {
     let mut j = i;
     while j < count {
-        write_both(points[i], points[j], pairs[64 * i + j], pairs[64 * j + i]);
+        write_both(
+            points[i],
+            points[j],
+            pairs[POINTS * i + j],
+            pairs[POINTS * j + i],
+        );
         j += 1;
     }
 }
 
-fn write_pairs(count: usize, points: &[u64; 64], pairs: &[u64; 4096])
-    requires { ⌜ count ≤ 64 ⌝ }
+fn write_pairs(count: usize, points: &[u64; POINTS], pairs: &[u64; PAIRS])
+    requires { ⌜ count ≤ maxPoints ⌝ }
 {
     let mut i = 0;
     while i < count {
@@ -44,14 +52,14 @@ fn write_pairs(count: usize, points: &[u64; 64], pairs: &[u64; 4096])
 pub(crate) fn tell_tables(
     line: &[u8],
     map: Map,
-    points: &[u64; 64],
-    statuses: &[u8; 64],
-    blockers: &[u64; 64],
-    pairs: &[u64; 4096],
+    points: &[u64; POINTS],
+    statuses: &[u8; POINTS],
+    blockers: &[u64; POINTS],
+    pairs: &[u64; PAIRS],
 ) {
     answer(line, &[]);
     let count = map.points;
-    if count <= 64 {
+    if count <= POINTS {
         write_points(count, points, statuses, blockers);
         write_pairs(count, points, pairs);
     }

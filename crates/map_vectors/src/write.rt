@@ -4,12 +4,13 @@ use libc::STDOUT_FILENO;
 use replay::change::write_cell;
 use replay::lines::answer;
 use replay::lines::write_number;
+use sizes::POINTS;
 
 pub(crate) fn answer_count(line: &[u8], r: Count) {
     answer(line, &[r.refusal as u64, r.count as u64]);
 }
 
-// Below 2 no blocker stands in a table.
+// A number below 2 is no blocker.
 fn write_blocker(key: u64) {
     if key < 2 {
         io::write_all(STDOUT_FILENO, b"-");
@@ -26,7 +27,7 @@ fn write_point(key: u64, status: u8, blocker: u64) {
     io::write_all(STDOUT_FILENO, b"\n");
 }
 
-// A pair, and what is to stand behind its blocker.
+// A pair, and what is to follow its blocker.
 pub(crate) fn write_pair(lesser: u64, greater: u64, blocker: u64, end: &[u8]) {
     io::write_all(STDOUT_FILENO, b"e ");
     write_cell(lesser, b" ", b" ");
@@ -38,11 +39,11 @@ pub(crate) fn write_pair(lesser: u64, greater: u64, blocker: u64, end: &[u8]) {
 // Writes the first `count` points.
 pub(crate) fn write_points(
     count: usize,
-    points: &[u64; 64],
-    statuses: &[u8; 64],
-    blockers: &[u64; 64],
+    points: &[u64; POINTS],
+    statuses: &[u8; POINTS],
+    blockers: &[u64; POINTS],
 ) {
-    if 64 < count {
+    if POINTS < count {
         return;
     }
     let mut i = 0;

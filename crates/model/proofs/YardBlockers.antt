@@ -30,7 +30,7 @@ Blocked Ok s C l = (k : ℕ) (p : Point) → get k (l .points) ≡ some p → Ok
 -- ---- the run of a point's blocker over the changes
 -- within the reach; or every occupied cell within the reach is one that the changes to come fill
 record Soon (s : ℕ) (C : List ℕ) (ch : Batch) (k : ℕ) (o : Option ℕ) : Type 0 where
-  near : (b : ℕ) → o ≡ some b → T (within s b k)
+  reached : (b : ℕ) → o ≡ some b → T (within s b k)
   clear : o ≡ none → (c : ℕ) → T (has c C) → T (within s c k) → T (lastWord ch c false)
 
 -- a change that does not fill y says nothing of y that was not so
@@ -45,10 +45,10 @@ word-past y c v ch f = ap (lastWord ch y) (go (eqb y c) (eqb→eq y c))
 -- a point that b blocks, and one that nothing blocks and that the change of c leaves so
 module _ (s : ℕ) (C : List ℕ) (ch : Batch) (k : ℕ) where
   soon-some : (b : ℕ) → T (within s b k) → Soon s C ch k (some b)
-  soon-some b u = record { near = λ x e. subst (λ (z : ℕ). T (within s z k)) (Option·some-injective b x e) u; clear = λ e. absurd (Option·some-ne-none b e) }
+  soon-some b u = record { reached = λ x e. subst (λ (z : ℕ). T (within s z k)) (Option·some-injective b x e) u; clear = λ e. absurd (Option·some-ne-none b e) }
 
   soon-none : (c : ℕ) (v : Bool) → (T v → within s c k ≡ false) → Soon s C ((c, v) ∷ ch) k none → Soon s C ch k none
-  soon-none c v f x = record { near = x .near; clear = λ e y h u. rw (word-past y c v ch (past y u)) at (x .clear e y h u) }
+  soon-none c v f x = record { reached = x .reached; clear = λ e y h u. rw (word-past y c v ch (past y u)) at (x .clear e y h u) }
     where
       past : (y : ℕ) → T (within s y k) → y ≡ c → v ≡ false
       past y u e = notT→false v (λ z. let a : T (within s c k) = rw e at u in let b : T false = rw (f z) at a in b)
@@ -58,7 +58,7 @@ module _ (t : Tests) (Ok : ℕ → Type 0) (C : List ℕ) (whole : Whole t Ok C)
   square-soon : (ch : Batch) (k : ℕ) → Ok k → Soon (t .shift) C ch k (t .square C k .cell)
   square-soon ch k ok =
       record {
-        near = λ b e. find-passes (λ c. within (t .shift) c k) C b (sym (whole k ok) ∙ e);
+        reached = λ b e. find-passes (λ c. within (t .shift) c k) C b (sym (whole k ok) ∙ e);
         clear = λ e c h u. absurd (find-none (λ x. within (t .shift) x k) C (sym (whole k ok) ∙ e) c h u);
       }
 
@@ -69,17 +69,17 @@ module _ (t : Tests) (Ok : ℕ → Type 0) (C : List ℕ) (whole : Whole t Ok C)
       go : (b : Bool) → within (t .shift) c k ≡ b → Soon (t .shift) C ch k (cond b (some c) none)
       go true q = soon-some (t .shift) C ch k c (true→T (within (t .shift) c k) q)
       go false q = soon-none (t .shift) C ch k c true (λ z. q) x
-  soon-step k ok c true ch (some b) x = soon-some (t .shift) C ch k b (x .near b refl)
+  soon-step k ok c true ch (some b) x = soon-some (t .shift) C ch k b (x .reached b refl)
   soon-step k ok c false ch none x = soon-none (t .shift) C ch k c false (λ z. absurd z) x
   soon-step k ok c false ch (some b) x = go (eqb b c)
     where
       go : (s : Bool) → Soon (t .shift) C ch k (cond s (t .square C k .cell) (some b))
       go true = square-soon ch k ok
-      go false = soon-some (t .shift) C ch k b (x .near b refl)
+      go false = soon-some (t .shift) C ch k b (x .reached b refl)
 
   soon-run : (k : ℕ) → Ok k → (ch : Batch) (o : Option ℕ) → Soon (t .shift) C ch k o → Exact (t .shift) C k (pointRun t C k ch o)
   unfolding pointRun lastWord
-  soon-run k ok [] o x = record { near = x .near; clear = x .clear }
+  soon-run k ok [] o x = record { reached = x .reached; clear = x .clear }
   soon-run k ok (e ∷ ch) o x = soon-run k ok ch (pointAfter t C k (e .0) (e .1) o) (soon-step k ok (e .0) (e .1) ch o x)
 
   -- an update by any corners leaves the points as they should be, if before it every occupied cell within the reach of a free point is one that its changes fill
@@ -103,7 +103,7 @@ change-exact t Ok b C l whole g =
     ch = confirmed b C
 
     soon : (k : ℕ) (o : Option ℕ) → Exact (t .shift) C k o → Soon (t .shift) C′ ch k o
-    soon k o x = record { near = x .near; clear = λ e c h u. rw (confirmed-last b C c, notT→false (has c C) (λ z. x .clear e c z u)) at h }
+    soon k o x = record { reached = x .reached; clear = λ e c h u. rw (confirmed-last b C c, notT→false (has c C) (λ z. x .clear e c z u)) at h }
 
 -- a fresh build has them so
 pub rebuild-exact : (t : Tests) (Ok : ℕ → Type 0) (C : List ℕ) → Whole t Ok C → (r : Float) → Blocked Ok (t .shift) C (update t C [] (cornerCells C) (record { radius = r; points = []; edges = [] }))

@@ -73,7 +73,7 @@ queueRun [] B = []
 queueRun (m ∷ ms) B = let r = queueRun ms (λ k. statusAfter m k (B k)) in cond (queues m (B (m .at))) (m .at ∷ r) r
 
 -- ---- the new pairs
--- p stands in the queue before q does
+-- p is in the queue before q
 unfoldable pub ahead : ℕ → ℕ → List ℕ → Bool
 ahead p q [] = false
 ahead p q (k ∷ ks) = let r = ahead p q ks in cond (eqb k p) true (cond (eqb k q) false r)
@@ -88,7 +88,7 @@ unfoldable pub pointRun : Tests → List ℕ → ℕ → Batch → Option ℕ �
 pointRun t C k [] o = o
 pointRun t C k (e ∷ ch) o = pointRun t C k ch (pointAfter t C k (e .0) (e .1) o)
 
--- a point stands where the cells give a bit, with the status that they give
+-- there is a point where the cells give a bit, with the status that they give
 unfoldable pub closedPoint : Tests → List ℕ → Batch → List Mark → Layer → ℕ → Option Point
 closedPoint t C′ ch ms l k =
     let start = startBlock t C′ ms l k in
@@ -104,7 +104,7 @@ abbrev pub orElse : Option (Option ℕ) → Option ℕ → Option ℕ
 orElse none o = o
 orElse (some v) o = v
 
--- a pair p < q stands where the statuses that the cells give join its ends: a survivor with its blocker, a new one with its sweep's, after the changes
+-- there is a pair p < q where the statuses that the cells give join its ends: a survivor with its blocker, a new one with its sweep's, after the changes
 unfoldable pub closedPair : Tests → List ℕ → Batch → List Mark → Layer → ℕ → ℕ → Option (Option ℕ)
 closedPair t C′ ch ms l p q =
     let start = orElse (survivor ms l p q) (newBlock t C′ (queueRun ms (bitsIn (l .points))) p q) in
@@ -119,13 +119,13 @@ pub record Closed (t : Tests) (C′ : List ℕ) (ch : Batch) (ms : List Mark) (l
   pub point : (k : ℕ) → get k (l′ .points) ≡ closedPoint t C′ ch ms l k
   pub pair : (p q : ℕ) → p < q → edge p q (l′ .edges) ≡ closedPair t C′ ch ms l p q
 
--- ---- what stands on the way
+-- ---- what there is on the way
 -- a mark gives k a bit
 unfoldable pub brings : List Mark → ℕ → Bool
 brings [] k = false
 brings (m ∷ ms) k = (eqb k (m .at) && m .on) || brings ms k
 
--- the points that stand at some time while the marks are made: those of K, and those that a mark brings
+-- the points that there are at some time while the marks are made: those of K, and those that a mark brings
 unfoldable pub stand : List Mark → List ℕ → List ℕ
 stand [] K = K
 stand (m ∷ ms) K = let K′ = add (m .at) K in stand ms (cond (m .on) K′ K)

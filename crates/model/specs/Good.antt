@@ -56,5 +56,5 @@ pub record Good (s : ℕ) (C : List ℕ) (l : Layer) : Type 0 where
 
 -- o blocks k exactly when an occupied cell lies within the reach of k on both axes
 pub record Exact (s : ℕ) (C : List ℕ) (k : ℕ) (o : Option ℕ) : Type 0 where
-  pub near : (b : ℕ) → o ≡ some b → T (within s b k)
+  pub reached : (b : ℕ) → o ≡ some b → T (within s b k)
   pub clear : o ≡ none → (c : ℕ) → T (has c C) → T (within s c k) → ⊥

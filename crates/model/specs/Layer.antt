@@ -27,7 +27,7 @@ pub record Point : Type 0 where
 abbrev pub Points : Type 0
 Points = List (ℕ × Point)
 
--- each pair stands under both its points, with its blocker
+-- each pair is stored under both its points, with its blocker
 abbrev pub Edges : Type 0
 Edges = List (ℕ × List (ℕ × Option ℕ))
 
@@ -94,7 +94,7 @@ abbrev pub started : Layer → Work
 started l = record { points = l .points; edges = l .edges; queue = [] }
 
 module _ (t : Tests) (C : List ℕ) where
-  -- a set bit at k, by what stands there: a new point takes the first cell of its square test
+  -- a set bit at k, by what is there: a new point takes the first cell of its square test
   unfoldable pub raise : Dir → ℕ → Option Point → Work → Work
   raise d k none w =
       record { points = put k (record { bits = setBit d true zero4; block = t .square C k .cell }) (w .points); edges = w .edges; queue = w .queue ++ (k ∷ []) }
@@ -179,10 +179,10 @@ module _ (t : Tests) (C : List ℕ) where
   phase4 [] ps e = e
   phase4 (c ∷ ch) ps e = settleAll (c ∷ ch) ps e
 
-  -- ---- the whole: the confirmed changes ch and the corners cs, over the cells C as they are afterwards
+  -- ---- the whole: the confirmed changes ch and the corners, over the cells C as they are afterwards
   unfoldable pub update : Batch → List (ℕ × Bits) → Layer → Layer
-  update ch cs l =
-      let w = markAll (marks (t .shift) cs) (started l) in
+  update ch corners l =
+      let w = markAll (marks (t .shift) corners) (started l) in
       let ps = phase2 ch (w .points) in
       record { radius = l .radius; points = ps; edges = phase4 ch ps (phase3 (w .queue) ps (w .edges)) }
 

@@ -1,5 +1,5 @@
 -- The numbers that bound the work (document 01), each named once. Definitions only.
-use Prim.Native.Nat.{ℕ, _-_, _*_, _/_}
+use Prim.Native.Nat.{ℕ, _+_, _-_, _*_, _/_}
 use mathlib.Core.Bool.{false}
 use lib.IntN.{negsuc}
 use lib.Ieee.{Float, fin}
@@ -16,9 +16,12 @@ mostSize = pow2 16
 abbrev pub maxShift : ℕ
 maxShift = 64
 
--- entries of a batch
+-- entries of a batch, and its numbers: column, row and occupied of each entry
 abbrev pub maxBatch : ℕ
 maxBatch = 256
+
+abbrev pub maxNumbers : ℕ
+maxNumbers = 3 * maxBatch
 
 -- batch coordinates, from -1,048,576 to 1,048,576; visibility and neighbour questions may go 64 further
 abbrev pub maxCoordinate : ℕ
@@ -33,6 +36,10 @@ maxCells = 1024
 
 abbrev pub maxPoints : ℕ
 maxPoints = 64
+
+-- places of the table of pairs: a row for each point
+abbrev pub pairPlaces : ℕ
+pairPlaces = maxPoints * maxPoints
 
 -- query coordinates, widths and radii
 abbrev pub maxQuery : Float
@@ -53,3 +60,17 @@ needOthers = maxPoints
 
 abbrev pub needPairs : ℕ
 needPairs = maxPoints * (maxPoints - 1) / 2
+
+-- bytes of the longest field of a map file: a tag, a length of two bytes, and nine bytes for each entry of a batch
+abbrev pub needWindow : ℕ
+needWindow = 3 + 9 * maxBatch
+
+-- bytes of a listing: its first line, and a line for each point and each pair
+abbrev pub firstRoom : ℕ
+firstRoom = 256
+
+abbrev pub lineRoom : ℕ
+lineRoom = 80
+
+abbrev pub needListing : ℕ
+needListing = firstRoom + lineRoom * (maxPoints + needPairs)

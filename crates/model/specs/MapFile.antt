@@ -60,7 +60,7 @@ pub data Reading : Type 0 where
   refused : ℕ → ℕ → Reading
   done : Map → Reading
 
--- the tags that may stand here
+-- the tags that may come here
 abbrev pub placed : Expected → ℕ → Bool
 placed size t = eqb t 1
 placed radius t = eqb t 2

@@ -1,1 +1,1 @@
-//! Document 01 as definitions (specs/), and the theorems about them (proofs/). No code stands here yet; other crates prove theirs equal to it.
+//! Document 01 as definitions (specs/), and the theorems about them (proofs/). There is no code here; other crates prove that theirs does the same.

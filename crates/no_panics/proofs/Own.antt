@@ -39,7 +39,7 @@ use Rattle.model.proofs.OrderLaws.{no-ltb}
 use Rattle.model.proofs.TestLaws.{not-false, shift-le}
 use Rattle.model.proofs.RunLaws.{passed, Sound, next-sound, open-sound, run-keeps, opened-is}
 use Rattle.model.proofs.PointPlaces.{point-inside}
-use Rattle.no_panics.specs.Casts.{Own, stands, asked, near, OwnSafe, RunSafe}
+use Rattle.no_panics.specs.Casts.{Own, stands, asked, inner, OwnSafe, RunSafe}
 use Rattle.no_panics.proofs.Casts.{Size, Place, Length, size-finite, least-above, size-of, or-no, point-casts, square-casts, sweep-casts}
 
 -- ---- a cell at most 2^21 from the origin
@@ -268,7 +268,7 @@ unfolding refuseAsking
 own-close m g (inl l) k (stands t) = (l, stands-close m (l .1) g k t)
 own-close m g (inr e) k (stands t) = absurd (let z : T false = unfold get in rw e at t in z)
 own-close m g d k (asked lent x y e t) = let p = passed _ e in ((p .size, p .radius), asked-close lent m x y e k t)
-own-close m g d k (near lent e i) = let p = passed _ e in ((p .size, p .radius), i)
+own-close m g d k (inner lent e i) = let p = passed _ e in ((p .size, p .radius), i)
 
 pub own-safe : RunSafe
 own-safe c r os p q v w =

@@ -1,24 +1,26 @@
 // Where a cell lies: its corners, its centre, and its columns' and rows' ends.
 use crate::point::Point;
+use sizes::COLUMN;
 ghost use mathlib.Core.Path.{_≡_};
 ghost use Prim.Native.Nat.{_+_, _/_, _%_, _≤_};
 ghost use lib.Ieee.{binary64, ofInt};
 ghost use lib.IntN.{pos};
 ghost use Rattle.ieee.specs.Whole.{unbias};
+ghost use Rattle.model.specs.Cell.{W};
 ghost use Rattle.model.specs.Plane.{centre, lowCorner};
 ghost use Rattle.plane.specs.Values.{pt};
 ghost use Rattle.plane.specs.Edge.{edgeOf};
 
 // The number of the column or row n: at most 2 ^ 31 in size, and so the cast exact.
 fn column(n: u64) -> f64
-    requires { ⌜ n ≤ 4294967296 ⌝ }
+    requires { ⌜ n ≤ W ⌝ }
     ensures { λ r. ⌜ r ≡ ofInt binary64 (unbias n) ⌝ }
 {
     (n as i64 - 2147483648) as f64
 }
 
 fn edge(n: u64, size: f64) -> f64
-    requires { ⌜ n ≤ 4294967296 ⌝ }
+    requires { ⌜ n ≤ W ⌝ }
     ensures { λ r. ⌜ r ≡ edgeOf size n ⌝ }
 {
     size * column(n)
@@ -43,8 +45,8 @@ pub fn corner(cell: u64, i: u64, size: f64) -> Point
     ensures { λ r. ⌜ pt r ≡ lowCorner size cell (pos (i / 2 % 2)) (pos (i % 2)) ⌝ }
 {
     Point {
-        x: edge(cell / 4294967296 + i / 2 % 2, size),
-        y: edge(cell % 4294967296 + i % 2, size),
+        x: edge(cell / COLUMN + i / 2 % 2, size),
+        y: edge(cell % COLUMN + i % 2, size),
     }
 }
 
@@ -52,7 +54,7 @@ pub fn centre(cell: u64, size: f64) -> Point
     ensures { λ r. ⌜ pt r ≡ centre size cell ⌝ }
 {
     Point {
-        x: size * (column(cell / 4294967296) + 0.5),
-        y: size * (column(cell % 4294967296) + 0.5),
+        x: size * (column(cell / COLUMN) + 0.5),
+        y: size * (column(cell % COLUMN) + 0.5),
     }
 }

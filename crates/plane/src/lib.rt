@@ -1,3 +1,3 @@
-// Points and vectors of floats: what segments and the grid stand on.
+// Points and vectors of floats, and where the corners and the centre of a cell lie.
 pub mod cell;
 pub mod point;

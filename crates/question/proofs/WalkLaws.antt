@@ -1,5 +1,6 @@
 -- A walk over an ascending table column by column, and over a column row by row, finds the first cell that is taken. Assumes nothing.
 use Prim.Native.Nat.{ℕ, suc, _+_, _-_, _*_, _^_, _≤_, _<_}
+use native.Mathlib.Nat.{le-refl}
 use native.Mathlib.Numerals.{add-one}
 use native.Mathlib.Omega.{arith}
 use mathlib.Core.Path.{_≡_, refl, sym, ap, _∙_, subst}
@@ -23,7 +24,7 @@ use Rattle.table.proofs.AllLaws.{all-at, all-from, all-map, ascL-all, ascL-drop
 use Rattle.table.proofs.ColumnLaws.{column-ascends, column-one, rows-ascend}
 use Rattle.table.proofs.RankLaws.{rank-le, rank-splits}
 use Rattle.table.proofs.SiftLaws.{sift-below, sift-same}
-use Rattle.question.specs.Walk.{Shape, columnTaken, flat, keyed, passes, rowTaken, rowsAt, taken}
+use Rattle.question.specs.Walk.{First, FirstIn, Left, Shape, below, columnTaken, flat, keyed, passes, rowTaken, rowsAt, taken}
 use Rattle.question.specs.declared.search.Found.{Found}
 use Rattle.question.proofs.FindLaws.{all-kept, all-rest, find-agree, find-back, find-front, find-here, find-later, find-nowhere, find-sift}
 
@@ -104,54 +105,40 @@ rows-answered s x l m b r q a o e f =
     f x (subst (AscL 0) (sym e) (rows-ascend (b .low) 0 l a)) (subst (InColumn x) (sym e) (all-kept (λ k. col k ≡ x) (λ k. leb (b .low) (row k)) l o))
     ∙ ap keyed same
 
--- ---- along a table; once the columns below the first are passed, only the last counts
-abbrev pub below : ℕ → Shape → ℕ → Bool
-below high s k = ltb (col k) high && columnTaken s (col k) k
+-- ---- along a table: where the walk begins. No cell is taken below the row `low`
+module _ (columns : Bounds) (s : Shape) (l : List ℕ) (low : ℕ) (rows : (x : ℕ) → low ≤ rowsAt s x .low) where
+  -- nothing is taken at all
+  left-none : ((i : ℕ) → taken columns s (getD l i 0) ≡ false) → Left columns s l (length l)
+  left-none f = λ a.
+      find-nowhere (taken columns s) l (all-from (λ k. taken columns s k ≡ false) l f)
+      ∙ sym (find-past (below (columns .high) s) l (length l) (le-refl (length l)))
 
-module _ (columns : Bounds) (s : Shape) (l : List ℕ) where
-  -- no cell has so high a column
-  pub low-beyond : W ≤ columns .low → ((i : ℕ) → getD l i 0 < 2 ^ 64) → none ≡ find (taken columns s) l
-  low-beyond h f =
-      sym (find-nowhere (taken columns s) l (all-from (λ k. taken columns s k ≡ false) l (λ i. let b = f i in rw (lt-leb (columns .low) (col (getD l i 0)) (omega arith)) refl)))
+  -- no cell has so high a column, or so high a row
+  pub column-beyond : W ≤ columns .low → ((i : ℕ) → getD l i 0 < 2 ^ 64) → Left columns s l (length l)
+  column-beyond h f = left-none (λ i. let b = f i in rw (lt-leb (columns .low) (col (getD l i 0)) (omega arith)) refl)
 
-  pub low-passed : (i : ℕ) → AscL 0 l → i ≡ rank (columns .low * W) l → find (taken columns s) l ≡ find (below (columns .high) s) (drop i l)
-  low-passed i a e =
-      let n = rank (columns .low * W) l in
-      let q = rank-splits 0 (columns .low * W) l a in
-      rw e
+  low-row : (k : ℕ) → row k < low → taken columns s k ≡ false
+  low-row k b =
+      let n : low ≤ rowsAt s (col k) .low = rows (col k) in
+      let m : row k < rowsAt s (col k) .low = omega arith in
+      rw (lt-leb (rowsAt s (col k) .low) (row k) m) (and-false (inBounds columns (col k)))
+
+  pub row-beyond : W ≤ low → Left columns s l (length l)
+  row-beyond h = left-none (λ i. let k = getD l i 0 in low-row k (omega arith))
+
+  -- the cells before the row `low` of the first column do not count
+  pub left-begins : (i : ℕ) → low < W → (AscL 0 l → i ≡ rank (columns .low * W + low) l) → Left columns s l i
+  left-begins i w e = λ a.
+      let p = columns .low * W + low in
+      let n = rank p l in
+      let q = rank-splits 0 p l a in
+      rw (e a)
       (ap (find (taken columns s)) (sym (take-append-drop n l))
-      ∙ find-back (taken columns s) (take n l) (drop n l) (find-nowhere (taken columns s) (take n l) (all-map (take n l) (λ k b. rw (lt-leb (columns .low) (col k) (omega arith)) refl) (q .0)))
+      ∙ find-back (taken columns s) (take n l) (drop n l) (find-nowhere (taken columns s) (take n l) (all-map (take n l) before (q .0)))
       ∙ find-agree (taken columns s) (below (columns .high) s) (drop n l) (all-map (drop n l) (λ k b. rw (le-leb (columns .low) (col k) (omega arith)) refl) (q .1)))
-
-  -- the same, where the rows are the same everywhere: no cell has so high a row, and the cells before the first row of the first column do not count either
-  module _ (rows : Bounds) (same : (x : ℕ) → rowsAt s x ≡ rows) where
-    pub row-beyond : W ≤ rows .low → none ≡ find (taken columns s) l
-    row-beyond h =
-        sym (find-nowhere (taken columns s) l (all-from (λ k. taken columns s k ≡ false) l (λ i. let k = getD l i 0 in outside k (omega arith))))
-      where
-        outside : (k : ℕ) → row k < rows .low → taken columns s k ≡ false
-        outside k b = rw (same (col k), lt-leb (rows .low) (row k) b) (and-false (inBounds columns (col k)))
-
-    pub place-passed : (i : ℕ) → AscL 0 l → rows .low < W → i ≡ rank (columns .low * W + rows .low) l → find (taken columns s) l ≡ find (below (columns .high) s) (drop i l)
-    place-passed i a w e =
-        let p = columns .low * W + rows .low in
-        let n = rank p l in
-        let q = rank-splits 0 p l a in
-        rw e
-        (ap (find (taken columns s)) (sym (take-append-drop n l))
-        ∙ find-back (taken columns s) (take n l) (drop n l) (find-nowhere (taken columns s) (take n l) (all-map (take n l) before (q .0)))
-        ∙ find-agree (taken columns s) (below (columns .high) s) (drop n l) (all-map (drop n l) (λ k b. rw (le-leb (columns .low) (col k) (omega arith)) refl) (q .1)))
-      where
-        before : (k : ℕ) → k < columns .low * W + rows .low → taken columns s k ≡ false
-        before k b = ⊎-elim left right (lt-or-ge (col k) (columns .low))
-          where
-            left : col k < columns .low → taken columns s k ≡ false
-            left c = rw (lt-leb (columns .low) (col k) c) refl
-
-            right : columns .low ≤ col k → taken columns s k ≡ false
-            right c =
-                let r : row k < rows .low = omega arith in
-                rw (same (col k), lt-leb (rows .low) (row k) r) (and-false (inBounds columns (col k)))
+    where
+      before : (k : ℕ) → k < columns .low * W + low → taken columns s k ≡ false
+      before k b = ⊎-elim (λ c. rw (lt-leb (columns .low) (col k) c) refl) (λ c. low-row k (omega arith)) (lt-or-ge (col k) (columns .low))
 
 -- column x is the front stretch of an ascending list that begins in it
 front-test : (x k : ℕ) → x * W ≤ k → eqb (col k) x ≡ ltb k ((x + 1) * W)
@@ -179,11 +166,11 @@ module _ (high : ℕ) (s : Shape) (l : List ℕ) (i : ℕ) (h : i < length l) (a
   abbrev y : ℕ
   y = getD l i 0
 
-  pub column-past : high ≤ col y → find (below high s) (drop i l) ≡ none
+  column-past : high ≤ col y → find (below high s) (drop i l) ≡ none
   column-past b = find-nowhere (below high s) (drop i l) (all-map (drop i l) (λ k c. rw (le-ltb (col k) high (omega arith)) refl) (from-here l i h a))
 
   -- y itself
-  pub cell-here : col y < high → columnTaken s (col y) y ≡ true → find (below high s) (drop i l) ≡ some y
+  cell-here : col y < high → columnTaken s (col y) y ≡ true → find (below high s) (drop i l) ≡ some y
   cell-here b t = ap (find (below high s)) (drop-cons l i 0 h) ∙ find-here (below high s) y (drop (suc i) l) (rw (lt-ltb (col y) high b) t)
 
   -- m is the column as it was cut out of the rest of the table, r what was found in it
@@ -199,7 +186,7 @@ module _ (high : ℕ) (s : Shape) (l : List ℕ) (i : ℕ) (h : i < length l) (a
     one : InColumn (col y) m
     one = subst (InColumn (col y)) (sym cut) (column-one (col y) (drop i l))
 
-    pub column-some : length m ≡ 0 → ⊥
+    column-some : length m ≡ 0 → ⊥
     column-some z = begins-some y (drop (suc i) l) (rw (cut, drop-cons l i 0 h) at z)
 
     module _ (b : col y < high) (r : Found) (f : AscL 0 m → InColumn (col y) m → r ≡ keyed (find (λ k. columnTaken s (col y) k) m)) where
@@ -214,11 +201,40 @@ module _ (high : ℕ) (s : Shape) (l : List ℕ) (i : ℕ) (h : i < length l) (a
       some-told : keyed (find (below high s) m) .some ≡ r .some
       some-told = sym (ap (λ (v : Found). v .some) told)
 
-      pub column-here : r .some ≡ true → r ≡ keyed (find (below high s) (drop i l))
+      column-here : r .some ≡ true → r ≡ keyed (find (below high s) (drop i l))
       column-here t =
           let w = keyed-some (find (below high s) m) (some-told ∙ t) in
           told ∙ ap keyed (w .1 ∙ sym (ap (find (below high s)) splits ∙ find-front (below high s) m (drop (i + length m) l) (w .0) (w .1)))
 
-      pub column-next : r .some ≡ false → find (below high s) (drop i l) ≡ find (below high s) (drop (i + length m) l)
+      column-next : r .some ≡ false → find (below high s) (drop i l) ≡ find (below high s) (drop (i + length m) l)
       column-next t =
           ap (find (below high s)) splits ∙ find-back (below high s) m (drop (i + length m) l) (keyed-none (find (below high s) m) (some-told ∙ t))
+
+-- ---- the walk's steps, at place i, where cell y is; r is what is answered
+-- m is the column as it was cut out of the rest of the table, r what was found in it: that is the answer, or the walk goes on past the column
+pub record Stepped (columns : Bounds) (s : Shape) (l m : List ℕ) (i : ℕ) (r : Found) : Type 0 where
+  pub here : r .some ≡ true → First (taken columns s) l r
+  pub next : r .some ≡ false → (j : ℕ) → (0 < length m → j ≡ i + length m) → Left columns s l j
+
+module _ (columns : Bounds) (s : Shape) (l : List ℕ) (i : ℕ) (v : Left columns s l i) where
+  abbrev y′ : ℕ
+  y′ = getD l i 0
+
+  pub left-past : (r : Found) → r ≡ keyed none → i < length l → columns .high ≤ col y′ → First (taken columns s) l r
+  left-past r e h b = λ a. e ∙ ap keyed (sym (v a ∙ column-past (columns .high) s l i h a b))
+
+  pub left-end : (r : Found) → r ≡ keyed none → length l ≤ i → First (taken columns s) l r
+  left-end r e h = λ a. e ∙ ap keyed (sym (v a ∙ find-past (below (columns .high) s) l i h))
+
+  module _ (h : i < length l) (b : col y′ < columns .high) where
+    pub left-cell : columnTaken s (col y′) y′ ≡ true → First (taken columns s) l (keyed (some y′))
+    left-cell t = λ a. ap keyed (sym (v a ∙ cell-here (columns .high) s l i h a b t))
+
+    pub left-step : (m : List ℕ) → (AscL 0 (take (length l - i) (drop i l)) → m ≡ columnOf (col y′) (take (length l - i) (drop i l))) → (r : Found)
+        → FirstIn (col y′) (λ k. columnTaken s (col y′) k) m r → Stepped columns s l m i r
+    left-step m e r f = record {
+      here = λ t a. column-here (columns .high) s l i h a m e b r f t ∙ ap keyed (sym (v a));
+      next = λ t j n a.
+          let some : 0 < length m = ⊎-elim (λ p. p) (λ p. absurd (column-some (columns .high) s l i h a m e (omega arith))) (lt-or-ge 0 (length m)) in
+          rw (n some) (v a ∙ column-next (columns .high) s l i h a m e b r f t);
+    }

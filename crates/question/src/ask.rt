@@ -6,6 +6,7 @@ use crate::search::search;
 use limits::cell::Cell;
 use limits::floor::Floor;
 use limits::judge::bad_size;
+use sizes::CELLS;
 ghost use mathlib.Core.Path.{_≡_};
 ghost use Rattle.question.specs.Answer.{cellAt, nowhere, placed};
 ghost use Rattle.question.specs.Ask.{Asked, refuseFloor};
@@ -45,13 +46,13 @@ pub fn place_of(f: Found) -> Place
 pub fn judge(room: usize, size: f64, cells: usize, bad: bool) -> u8
     ensures { λ r. ⌜ r ≡ refuseFloor room size cells bad ⌝ }
 {
-    if room < 1024 {
+    if room < CELLS {
         return 9;
     }
     if bad_size(size) {
         return 1;
     }
-    if 1024 < cells {
+    if CELLS < cells {
         return 6;
     }
     if bad {

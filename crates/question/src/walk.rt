@@ -5,19 +5,15 @@ use crate::search::Found;
 use shape::bounds::Bounds;
 use shape::circle::Circle;
 use shape::sweep::Strip;
+use sizes::COLUMN;
 use table::column::column;
 use table::column::rows_from;
 use table::place::place;
 ghost use mathlib.Core.Path.{_≡_};
-ghost use Prim.Native.Nat.{ℕ};
-ghost use Rattle.model.specs.Maps.{AscL, find};
+ghost use Prim.Native.Nat.{ℕ, _+_, _^_, _≤_, _<_};
 ghost use Rattle.shape.specs.Bounds.{inBounds};
 ghost use Rattle.shape.specs.declared.bounds.Bounds.{Bounds};
-ghost use Rattle.table.specs.Columns.{InColumn};
-ghost use Rattle.question.specs.Walk.{columnTaken, flat, keyed, round, rowTaken, swept, taken};
-
-// Keys from one column to the next.
-const WIDTH: u64 = 4294967296;
+ghost use Rattle.question.specs.Walk.{First, FirstIn, Left, Shape, columnTaken, flat, round, rowTaken, rowsAt, swept, taken};
 
 // ---- one column
 
@@ -33,7 +29,7 @@ fn in_rows(y: u64, rows: Bounds) -> bool
 fn met_in_rows(k: u64, rows: Bounds, circle: Circle) -> bool
     ensures { λ r. ⌜ r ≡ columnTaken (round rows circle) 0 k ⌝ }
 {
-    if in_rows(k % WIDTH, rows) {
+    if in_rows(k % COLUMN, rows) {
         return circle.meets(k);
     }
     false
@@ -41,89 +37,90 @@ fn met_in_rows(k: u64, rows: Bounds, circle: Circle) -> bool
 
 // The first of the cells from a row on, if it lies below the row `high`.
 fn lowest(rows: &[u64], high: u64) -> Found
-    ensures { λ r. ⌜ ((x : ℕ) (b : Bounds) → AscL 0 (now (rows .entry)) → InColumn x (now (rows .entry)) → r ≡ keyed (find (rowTaken high (flat b)) (now (rows .entry)))) ⌝ }
+    ensures { λ r. ⌜ ((x : ℕ) (b : Bounds) → FirstIn x (rowTaken high (flat b)) (now (rows .entry)) r) ⌝ }
 {
     if rows.len() == 0 {
-        return Found {
-            some: false,
-            key: 0,
-        };
+        return Found::nothing();
     }
     let k = rows[0];
-    Found::only(k % WIDTH < high, k)
+    Found::only(k % COLUMN < high, k)
 }
 
 // The first of the cells from a row on that lies below the row `high` and that the circle meets.
 fn first_met(rows: &[u64], high: u64, circle: Circle) -> Found
-    ensures { λ r. ⌜ ((x : ℕ) (b : Bounds) → AscL 0 (now (rows .entry)) → InColumn x (now (rows .entry)) → r ≡ keyed (find (rowTaken high (round b circle)) (now (rows .entry)))) ⌝ }
+    ensures { λ r. ⌜ ((x : ℕ) (b : Bounds) → FirstIn x (rowTaken high (round b circle)) (now (rows .entry)) r) ⌝ }
 {
     let mut i = 0;
     while i < rows.len() {
         let k = rows[i];
-        if high <= k % WIDTH {
-            return Found {
-                some: false,
-                key: 0,
-            };
+        if high <= k % COLUMN {
+            return Found::nothing();
         }
         if circle.meets(k) {
             return Found { some: true, key: k };
         }
         i += 1;
     }
-    Found {
-        some: false,
-        key: 0,
-    }
+    Found::nothing()
 }
 
 fn flat_in(col: &[u64], rows: Bounds) -> Found
-    ensures { λ r. ⌜ ((x : ℕ) → AscL 0 (now (col .entry)) → InColumn x (now (col .entry)) → r ≡ keyed (find (columnTaken (flat rows) x) (now (col .entry)))) ⌝ }
+    ensures { λ r. ⌜ ((x : ℕ) → FirstIn x (columnTaken (flat rows) x) (now (col .entry)) r) ⌝ }
 {
     lowest(rows_from(col, rows.low), rows.high)
 }
 
 fn round_in(col: &[u64], rows: Bounds, circle: Circle) -> Found
-    ensures { λ r. ⌜ ((x : ℕ) → AscL 0 (now (col .entry)) → InColumn x (now (col .entry)) → r ≡ keyed (find (columnTaken (round rows circle) x) (now (col .entry)))) ⌝ }
+    ensures { λ r. ⌜ ((x : ℕ) → FirstIn x (columnTaken (round rows circle) x) (now (col .entry)) r) ⌝ }
 {
     first_met(rows_from(col, rows.low), rows.high, circle)
 }
 
 fn swept_in(col: &[u64], x: u64, strip: Strip, size: f64) -> Found
-    ensures { λ r. ⌜ (AscL 0 (now (col .entry)) → InColumn x (now (col .entry)) → r ≡ keyed (find (columnTaken (swept strip size) x) (now (col .entry)))) ⌝ }
+    ensures { λ r. ⌜ FirstIn x (columnTaken (swept strip size) x) (now (col .entry)) r ⌝ }
 {
     flat_in(col, strip.rows(size, x))
 }
 
 // ---- all columns
 
+// Where a walk begins: at the first cell from a row of the first column on, or at the end, where no cell has so high a
+// column or row.
+fn begin(cells: &[u64], columns: Bounds, row: u64) -> usize
+    ensures { λ r. ⌜ ((s : Shape) → ((x : ℕ) → row ≤ rowsAt s x .low) → Left columns s (now (cells .entry)) r) ⌝ }
+{
+    if COLUMN <= columns.low {
+        return cells.len();
+    }
+    if COLUMN <= row {
+        return cells.len();
+    }
+    place(cells, columns.low * COLUMN + row)
+}
+
+// Where a walk goes on: past the n cells of a column. Of a table that does not ascend there may be none: then at the next cell.
+fn after(i: usize, n: usize) -> usize
+    requires { ⌜ (i < 2 ^ 63) × (n < 2 ^ 63) ⌝ }
+    ensures { λ r. ⌜ (i < r) × (0 < n → r ≡ i + n) ⌝ }
+{
+    if n == 0 {
+        return i + 1;
+    }
+    i + n
+}
+
 // The same rows in every column. The first cell from the first row of the first column on is often the one.
 pub(crate) fn first_flat(cells: &[u64], columns: Bounds, rows: Bounds) -> Found
-    ensures { λ r. ⌜ (AscL 0 (now (cells .entry)) → r ≡ keyed (find (taken columns (flat rows)) (now (cells .entry)))) ⌝ }
+    ensures { λ r. ⌜ First (taken columns (flat rows)) (now (cells .entry)) r ⌝ }
 {
-    if WIDTH <= columns.low {
-        return Found {
-            some: false,
-            key: 0,
-        };
-    }
-    if WIDTH <= rows.low {
-        return Found {
-            some: false,
-            key: 0,
-        };
-    }
-    let mut i = place(cells, columns.low * WIDTH + rows.low);
+    let mut i = begin(cells, columns, rows.low);
     while i < cells.len() {
         let k = cells[i];
-        let x = k / WIDTH;
+        let x = k / COLUMN;
         if columns.high <= x {
-            return Found {
-                some: false,
-                key: 0,
-            };
+            return Found::nothing();
         }
-        if in_rows(k % WIDTH, rows) {
+        if in_rows(k % COLUMN, rows) {
             return Found { some: true, key: k };
         }
         let col = column(&cells[i..], x);
@@ -131,44 +128,21 @@ pub(crate) fn first_flat(cells: &[u64], columns: Bounds, rows: Bounds) -> Found
         if here.some {
             return here;
         }
-        let n = col.len();
-        if n == 0 {
-            i += 1;
-        } else {
-            i += n;
-        }
+        i = after(i, col.len());
     }
-    Found {
-        some: false,
-        key: 0,
-    }
+    Found::nothing()
 }
 
 // The cells that a circle meets, of the same rows in every column.
 pub(crate) fn first_round(cells: &[u64], columns: Bounds, rows: Bounds, circle: Circle) -> Found
-    ensures { λ r. ⌜ (AscL 0 (now (cells .entry)) → r ≡ keyed (find (taken columns (round rows circle)) (now (cells .entry)))) ⌝ }
+    ensures { λ r. ⌜ First (taken columns (round rows circle)) (now (cells .entry)) r ⌝ }
 {
-    if WIDTH <= columns.low {
-        return Found {
-            some: false,
-            key: 0,
-        };
-    }
-    if WIDTH <= rows.low {
-        return Found {
-            some: false,
-            key: 0,
-        };
-    }
-    let mut i = place(cells, columns.low * WIDTH + rows.low);
+    let mut i = begin(cells, columns, rows.low);
     while i < cells.len() {
         let k = cells[i];
-        let x = k / WIDTH;
+        let x = k / COLUMN;
         if columns.high <= x {
-            return Found {
-                some: false,
-                key: 0,
-            };
+            return Found::nothing();
         }
         if met_in_rows(k, rows, circle) {
             return Found { some: true, key: k };
@@ -178,52 +152,27 @@ pub(crate) fn first_round(cells: &[u64], columns: Bounds, rows: Bounds, circle: 
         if here.some {
             return here;
         }
-        let n = col.len();
-        if n == 0 {
-            i += 1;
-        } else {
-            i += n;
-        }
+        i = after(i, col.len());
     }
-    Found {
-        some: false,
-        key: 0,
-    }
+    Found::nothing()
 }
 
 // In each column the rows of a swept strip.
 pub(crate) fn first_swept(cells: &[u64], columns: Bounds, strip: Strip, size: f64) -> Found
-    ensures { λ r. ⌜ (AscL 0 (now (cells .entry)) → r ≡ keyed (find (taken columns (swept strip size)) (now (cells .entry)))) ⌝ }
+    ensures { λ r. ⌜ First (taken columns (swept strip size)) (now (cells .entry)) r ⌝ }
 {
-    if WIDTH <= columns.low {
-        return Found {
-            some: false,
-            key: 0,
-        };
-    }
-    let mut i = place(cells, columns.low * WIDTH);
+    let mut i = begin(cells, columns, 0);
     while i < cells.len() {
-        let x = cells[i] / WIDTH;
+        let x = cells[i] / COLUMN;
         if columns.high <= x {
-            return Found {
-                some: false,
-                key: 0,
-            };
+            return Found::nothing();
         }
         let col = column(&cells[i..], x);
         let here = swept_in(col, x, strip, size);
         if here.some {
             return here;
         }
-        let n = col.len();
-        if n == 0 {
-            i += 1;
-        } else {
-            i += n;
-        }
+        i = after(i, col.len());
     }
-    Found {
-        some: false,
-        key: 0,
-    }
+    Found::nothing()
 }

@@ -1,4 +1,4 @@
--- For replayed vectors: one more entry of a batch: its three numbers behind those that are there, where there is room. Definitions only.
+-- For replayed vectors: one more entry of a batch: its three numbers after those that are there, where there is room. Definitions only.
 use Prim.Native.Nat.{ℕ, _+_}
 use mathlib.Core.Bool.{cond}
 use mathlib.Core.List.{List}

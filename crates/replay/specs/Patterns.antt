@@ -1,4 +1,4 @@
--- For replayed vectors: what the words of a line stand for: digits, patterns, floats and signed numbers. Definitions only.
+-- For replayed vectors: what the words of a line mean: digits, patterns, floats and signed numbers. Definitions only.
 use Prim.Native.Nat.{ℕ, suc, _+_, _-_, _*_, _%_, _^_}
 use mathlib.Core.Bool.{cond, _&&_}
 use mathlib.Core.List.{List, [], _∷_}
@@ -11,7 +11,7 @@ use lib.Ieee.{Float, binary64, isNan, ofBits, toBits}
 unfoldable pub digitOf : ℕ → ℕ
 digitOf b = cond (leb 97 b && leb b 102) (b - 97 + 10) (cond (leb 48 b && leb b 57) (b - 48) 0)
 
--- the number v with the digits behind it, of which the last sixteen count
+-- the number v with the digits after it, of which the last sixteen count
 unfoldable pub hex : ℕ → List ℕ → ℕ
 hex v [] = v
 hex v (b ∷ l) = hex (v % 2 ^ 60 * 16 + digitOf b) l

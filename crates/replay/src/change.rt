@@ -1,10 +1,11 @@
 // Batches of changes: an entry that a line gives, and what a batch did.
 use crate::lines::write_number;
 use libc::STDOUT_FILENO;
+use sizes::COLUMN;
 ghost use mathlib.Core.Path.{_≡_};
 ghost use Rattle.replay.specs.Entered.{entered, usedThen};
 
-// Puts an entry's three numbers behind those that the batch has so far, where there is room. Returns how many it has then.
+// Puts an entry's three numbers after those that the batch has so far, where there is room. Returns how many it has then.
 pub fn enter(batch: &mut [i64], used: usize, x: i64, y: i64, full: i64) -> usize
     ensures { λ r. ⌜ (r ≡ usedThen (now (batch .entry)) used) × (now (batch .exit) ≡ entered (now (batch .entry)) used x y full) ⌝ }
 {
@@ -20,10 +21,10 @@ pub fn enter(batch: &mut [i64], used: usize, x: i64, y: i64, full: i64) -> usize
     used + 3
 }
 
-// Writes the column and the row that a key stands for, what is to stand between them, and what behind.
+// Writes the column and the row of a key, what is to come between them, and what is to follow.
 pub fn write_cell(key: u64, between: &[u8], end: &[u8]) {
-    let x = std::num::wrapping_sub_u64(key / 4294967296, 2147483648);
-    let y = std::num::wrapping_sub_u64(key % 4294967296, 2147483648);
+    let x = std::num::wrapping_sub_u64(key / COLUMN, 2147483648);
+    let y = std::num::wrapping_sub_u64(key % COLUMN, 2147483648);
     write_number(x, between);
     write_number(y, end);
 }

@@ -1,5 +1,5 @@
 // What the programs that replay vectors share: a line of fixed length from standard input, a letter and
-// operands of sixteen hexadecimal digits (crate `patterns`), and the answer's digits behind it on standard output.
+// operands of sixteen hexadecimal digits (patterns.rt), and the answer's digits after it on standard output.
 
 use libc::STDIN_FILENO;
 use libc::STDOUT_FILENO;
@@ -20,13 +20,13 @@ pub fn read_part(line: &mut [u8], from: usize, to: usize) -> bool {
     read_line(&mut line[from..to])
 }
 
-// Writes the pattern's digits, and what is to stand behind them.
+// Writes the pattern's digits, and what is to follow them.
 pub fn write_pattern(pattern: u64, end: &[u8]) -> bool {
     io::print_hex(STDOUT_FILENO, pattern, 16);
     io::write_all(STDOUT_FILENO, end)
 }
 
-// Writes a two's complement in decimals, and what is to stand behind it.
+// Writes a two's complement in decimals, and what is to follow it.
 pub fn write_number(pattern: u64, end: &[u8]) -> bool {
     if pattern < 9223372036854775808 {
         io::print_decimal(STDOUT_FILENO, pattern);

@@ -1,4 +1,4 @@
-// What the words of a line stand for: sixteen hexadecimal digits are the pattern of a float, or the two's complement of a number.
+// What the words of a line mean: sixteen hexadecimal digits are the pattern of a float, or the two's complement of a number.
 use ieee::bits::float_of;
 ghost use mathlib.Core.Path.{_≡_};
 ghost use Prim.Native.Nat.{_<_};

@@ -39,12 +39,12 @@ pub near-is : (s : LineSegment) (g : Proximity) (k : ℕ) (c r : Float) → IsPr
 unfolding passesNear nearBy measuredOf
 near-is s g k c r h =
     let far : Threshold (add binary64 r (mul binary64 bound (g .size))) (g .far) = rw (h .size) (h .far) in
-    rw (← h .size) (corners-decided s r _ (g .near) (g .far) (h .near) far _ _)
+    rw (← h .size) (corners-decided s r _ (g .close) (g .far) (h .close) far _ _)
 
 -- there is one `Proximity` for a size and a radius
-pub proximity-one : (c r : Float) (g h : Proximity) → T (fits binary64 (g .near)) → T (fits binary64 (h .near)) → T (fits binary64 (g .far)) → T (fits binary64 (h .far)) → IsProximity c r g → IsProximity c r h → g ≡ h
+pub proximity-one : (c r : Float) (g h : Proximity) → T (fits binary64 (g .close)) → T (fits binary64 (h .close)) → T (fits binary64 (g .far)) → T (fits binary64 (h .far)) → IsProximity c r g → IsProximity c r h → g ≡ h
 proximity-one c r g h gn hn gf hf p q =
-    rw (p .size ∙ sym (q .size), p .limit ∙ sym (q .limit), threshold-one r (g .near) (h .near) gn hn (p .near) (q .near), threshold-one _ (g .far) (h .far) gf hf (p .far) (q .far)) refl
+    rw (p .size ∙ sym (q .size), p .limit ∙ sym (q .limit), threshold-one r (g .close) (h .close) gn hn (p .close) (q .close), threshold-one _ (g .far) (h .far) gf hf (p .far) (q .far)) refl
 
 -- ---- corner by corner: where the first i decided nothing
 module _ (m : Measured) (g : Proximity) (k : ℕ) where
@@ -59,7 +59,7 @@ module _ (m : Measured) (g : Proximity) (k : ℕ) where
 
   -- the answer is that of the corners from i on
   abbrev pub Open : ℕ → Type 0
-  Open i = nearBy m g k ≡ decided (g .near) (g .far) (drop i squares) remaining
+  Open i = nearBy m g k ≡ decided (g .close) (g .far) (drop i squares) remaining
 
   pub open-all : Open 0
   unfolding nearBy
@@ -67,7 +67,7 @@ module _ (m : Measured) (g : Proximity) (k : ℕ) where
 
   pub open-none : (i : ℕ) → i ≤ 4 → 4 ≤ i → Open i → remaining ≡ nearBy m g k
   unfolding decided
-  open-none i h l o = let e : i ≡ 4 = omega arith in sym (o ∙ ap (λ (n : ℕ). decided (g .near) (g .far) (drop n squares) remaining) e)
+  open-none i h l o = let e : i ≡ 4 = omega arith in sym (o ∙ ap (λ (n : ℕ). decided (g .close) (g .far) (drop n squares) remaining) e)
 
   next : (i : ℕ) → i < 4 → drop i squares ≡ squared m (place i) ∷ drop (i + 1) squares
   next zero h = refl
@@ -77,11 +77,11 @@ module _ (m : Measured) (g : Proximity) (k : ℕ) where
   next (suc (suc (suc (suc i)))) h = absurd (omega arith)
 
   module _ (i : ℕ) (h : i < 4) (o : Open i) (q : Float) (e : q ≡ squared m (place i)) where
-    pub corner-near : lt q (g .near) ≡ true → true ≡ nearBy m g k
+    pub corner-near : lt q (g .close) ≡ true → true ≡ nearBy m g k
     unfolding decided
     corner-near y = rw (o, next i h, ← e, y) refl
 
-    module _ (on : lt q (g .near) ≡ false) where
+    module _ (on : lt q (g .close) ≡ false) where
       pub corner-far : le (g .far) q ≡ true → false ≡ nearBy m g k
       unfolding decided
       corner-far y = rw (o, next i h, ← e, on, y) refl

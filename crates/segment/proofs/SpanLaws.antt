@@ -12,9 +12,10 @@ use lib.Ieee.{Float, binary64, mul, le, lt}
 use Rattle.ieee.specs.Constants.{nought, pow2}
 use Rattle.ieee.specs.Whole.{unbias}
 use Rattle.ieee.proofs.Monotone.{le-trans, le-lt}
+use Rattle.model.specs.Cell.{col, row}
 use Rattle.model.specs.Plane.{Pt, lowCorner}
 use Rattle.model.specs.Segment.{passesNear}
-use Rattle.segment.specs.Many.{inSpan, inSpans, Ready}
+use Rattle.segment.specs.Many.{inSpan, inSpans, prepared, Ready}
 use Rattle.segment.specs.Spans.{Small, SmallLine, Wide, IsSpan}
 use Rattle.plane.specs.Edge.{edgeOf}
 use Rattle.segment.specs.Near.{IsProximity, decided, nearBy}
@@ -96,9 +97,9 @@ module _ (side a b u l size : Float) (fa : Small a) (fb : Small b) (fu : Small u
           above-aside side a b u l (edgeOf size (sp .high + 1)) (edgeOf size n) fa fb fu fl (at (sp .high + 1) m) (at n (le-of-lt h)) (drift-number (lt nought u) u l (small-finite u fu) (small-finite l fl)) (edge-mono size low most (sp .high + 1) n d (le-of-lt h)) (i .high p)
 
 -- ---- a cell whose first corner is far
-corner-is : (size : Float) (k : ℕ) → lowCorner size k (pos 0) (pos 0) ≡ record { x = edgeOf size (k / 4294967296); y = edgeOf size (k % 4294967296) }
+corner-is : (size : Float) (k : ℕ) → lowCorner size k (pos 0) (pos 0) ≡ record { x = edgeOf size (col k); y = edgeOf size (row k) }
 unfolding lowCorner
-corner-is size k = rw (← step (k / 4294967296), ← step (k % 4294967296)) refl
+corner-is size k = rw (← step (col k), ← step (row k)) refl
   where
     step : (n : ℕ) → unbias n ≡ unbias n +ℤ pos 0
     step n = let e : n ≡ n + 0 = omega arith in ap unbias e ∙ column-next n 0
@@ -107,54 +108,54 @@ far-cell : (m : Measured) (g : Proximity) (side : Float) (k : ℕ) → Wide g si
 unfolding nearBy decided
 far-cell m g side k w h =
     let q = squared m (lowCorner (g .size) k (pos 0) (pos 0)) in
-    let n : lt q (g .near) ≡ false = le-lt (g .near) q (le-trans (g .near) (mul binary64 side side) q (w .near) h) in
+    let n : lt q (g .close) ≡ false = le-lt (g .close) q (le-trans (g .close) (mul binary64 side side) q (w .close) h) in
     let f : le (g .far) q ≡ true = le-trans (g .far) (mul binary64 side side) q (w .far) h in
     rw (n, f) refl
 
 -- ---- both axes
 module _ (m : Measured) (g : Proximity) (side : Float) (sl : SmallLine m) (wd : Wide g side) (cols rows : Span)
     (ic : IsSpan side (m .segment .p0 .x) (m .segment .p1 .x) (m .unit .x) (m .length) (g .size) cols) (ir : IsSpan side (m .segment .p0 .y) (m .segment .p1 .y) (m .unit .y) (m .length) (g .size) rows) where
-  pub nothing-near : (k : ℕ) → k < 2 ^ 64 → (inSpan cols (k / 4294967296) && inSpan rows (k % 4294967296)) ≡ false → nearBy m g k ≡ false
-  nothing-near k h o = far-cell m g side k wd (rw (corner-is (g .size) k) (either (inSpan cols (k / 4294967296)) (inSpan rows (k % 4294967296)) o across upward))
+  pub nothing-near : (k : ℕ) → k < 2 ^ 64 → (inSpan cols (col k) && inSpan rows (row k)) ≡ false → nearBy m g k ≡ false
+  nothing-near k h o = far-cell m g side k wd (rw (corner-is (g .size) k) (either (inSpan cols (col k)) (inSpan rows (row k)) o across upward))
     where
-      x : k / 4294967296 < 2 ^ 32
+      x : col k < 2 ^ 32
       x = omega arith
 
-      y : k % 4294967296 < 2 ^ 32
+      y : row k < 2 ^ 32
       y = omega arith
 
       p : Pt
-      p = record { x = edgeOf (g .size) (k / 4294967296); y = edgeOf (g .size) (k % 4294967296) }
+      p = record { x = edgeOf (g .size) (col k); y = edgeOf (g .size) (row k) }
 
       far : (axis : Bool) → Aside side (on axis (pt (m .segment .p0))) (on axis (pt (m .segment .p1))) (on axis (vec (m .unit))) (m .length) (on axis p) → le (mul binary64 side side) (squared m p) ≡ true
-      far axis a = aside-square m side sl (wd .above) p (edge-within (g .size) (wd .size) (wd .most) (k / 4294967296) (le-of-lt x)) (edge-within (g .size) (wd .size) (wd .most) (k % 4294967296) (le-of-lt y)) axis a
+      far axis a = aside-square m side sl (wd .above) p (edge-within (g .size) (wd .size) (wd .most) (col k) (le-of-lt x)) (edge-within (g .size) (wd .size) (wd .most) (row k) (le-of-lt y)) axis a
 
-      across : inSpan cols (k / 4294967296) ≡ false → le (mul binary64 side side) (squared m p) ≡ true
-      across e = far true (span-aside side (m .segment .p0 .x) (m .segment .p1 .x) (m .unit .x) (m .length) (g .size) (sl .ax) (sl .bx) (sl .ux) (sl .length) (wd .size) (wd .most) cols ic (k / 4294967296) x e)
+      across : inSpan cols (col k) ≡ false → le (mul binary64 side side) (squared m p) ≡ true
+      across e = far true (span-aside side (m .segment .p0 .x) (m .segment .p1 .x) (m .unit .x) (m .length) (g .size) (sl .ax) (sl .bx) (sl .ux) (sl .length) (wd .size) (wd .most) cols ic (col k) x e)
 
-      upward : inSpan rows (k % 4294967296) ≡ false → le (mul binary64 side side) (squared m p) ≡ true
-      upward e = far false (span-aside side (m .segment .p0 .y) (m .segment .p1 .y) (m .unit .y) (m .length) (g .size) (sl .ay) (sl .by) (sl .uy) (sl .length) (wd .size) (wd .most) rows ir (k % 4294967296) y e)
+      upward : inSpan rows (row k) ≡ false → le (mul binary64 side side) (squared m p) ≡ true
+      upward e = far false (span-aside side (m .segment .p0 .y) (m .segment .p1 .y) (m .unit .y) (m .length) (g .size) (sl .ay) (sl .by) (sl .uy) (sl .length) (wd .size) (wd .most) rows ir (row k) y e)
 
 -- the spans of all columns and rows leave nothing out
-pub all-inside : (k : ℕ) → k < 2 ^ 64 → (leb 0 (k / 4294967296) && leb (k / 4294967296) 4294967295 && (leb 0 (k % 4294967296) && leb (k % 4294967296) 4294967295)) ≡ true
-all-inside k h = rw (le-leb 0 (k / 4294967296) (omega arith), le-leb (k / 4294967296) 4294967295 (omega arith), le-leb 0 (k % 4294967296) (omega arith), le-leb (k % 4294967296) 4294967295 (omega arith)) refl
+pub all-inside : (k : ℕ) → k < 2 ^ 64 → (leb 0 (col k) && leb (col k) 4294967295 && (leb 0 (row k) && leb (row k) 4294967295)) ≡ true
+all-inside k h = rw (le-leb 0 (col k) (omega arith), le-leb (col k) 4294967295 (omega arith), le-leb 0 (row k) (omega arith), le-leb (row k) 4294967295 (omega arith)) refl
 
 -- what a prepared test answers: the spans do not show
-pub prepared-answer : (s : LineSegment) (g : Proximity) (t : NearTest) (k : ℕ) → k < 2 ^ 64 → Ready s g t → (inSpans t k && nearBy (t .line) (t .reach) k) ≡ nearBy (measuredOf s) g k
+pub prepared-answer : (s : LineSegment) (g : Proximity) (t : NearTest) (k : ℕ) → k < 2 ^ 64 → Ready s g t → prepared t k ≡ nearBy (measuredOf s) g k
 prepared-answer s g t k h d = go (inSpans t k) refl
   where
     answer : nearBy (t .line) g k ≡ nearBy (measuredOf s) g k
     answer = ap (λ (m : Measured). nearBy m g k) (d .line)
 
-    go : (b : Bool) → inSpans t k ≡ b → (b && nearBy (t .line) (t .reach) k) ≡ nearBy (measuredOf s) g k
-    go true e = ap (λ (q : Proximity). nearBy (t .line) q k) (d .reach) ∙ answer
+    go : (b : Bool) → inSpans t k ≡ b → (b && nearBy (t .line) (t .proximity) k) ≡ nearBy (measuredOf s) g k
+    go true e = ap (λ (q : Proximity). nearBy (t .line) q k) (d .proximity) ∙ answer
     go false e = sym (d .outside k h e) ∙ answer
 
 -- any two tests that are prepared for one segment answer alike
 pub prepared-same : (s : LineSegment) (g : Proximity) (t u : NearTest) (k : ℕ) → k < 2 ^ 64 → Ready s g t → Ready s g u
-    → (inSpans t k && nearBy (t .line) (t .reach) k) ≡ (inSpans u k && nearBy (u .line) (u .reach) k)
+    → prepared t k ≡ prepared u k
 prepared-same s g t u k h d e = prepared-answer s g t k h d ∙ sym (prepared-answer s g u k h e)
 
 -- the theorem: a prepared test answers as the Rust's near test does
-pub prepared-near : (s : LineSegment) (g : Proximity) (t : NearTest) (k : ℕ) (c r : Float) → k < 2 ^ 64 → Ready s g t → IsProximity c r g → (inSpans t k && nearBy (t .line) (t .reach) k) ≡ passesNear (seg s) k c r
+pub prepared-near : (s : LineSegment) (g : Proximity) (t : NearTest) (k : ℕ) (c r : Float) → k < 2 ^ 64 → Ready s g t → IsProximity c r g → prepared t k ≡ passesNear (seg s) k c r
 prepared-near s g t k c r h d i = prepared-answer s g t k h d ∙ sym (near-is s g k c r i)

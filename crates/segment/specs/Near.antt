@@ -17,19 +17,19 @@ use Rattle.segment.specs.declared.near.Proximity.{Proximity}
 pub record IsProximity (c r : Float) (g : Proximity) : Type 0 where
   pub size : g .size ≡ c
   pub limit : g .limit ≡ add binary64 r (mul binary64 bound c)
-  pub near : Threshold r (g .near)
+  pub close : Threshold r (g .close)
   pub far : Threshold (add binary64 r (mul binary64 bound c)) (g .far)
 
--- the first square to decide: yes below `near`, no from `far` on
+-- the first square to decide: yes below `close`, no from `far` on
 unfoldable pub decided : Float → Float → List Float → Bool → Bool
-decided near far [] remaining = remaining
-decided near far (q ∷ l) remaining =
-    let rest = decided near far l remaining in
-    cond (lt q near) true (cond (le far q) false rest)
+decided close far [] remaining = remaining
+decided close far (q ∷ l) remaining =
+    let rest = decided close far l remaining in
+    cond (lt q close) true (cond (le far q) false rest)
 
 unfoldable pub nearBy : Measured → Proximity → ℕ → Bool
 nearBy m g k =
     let c = g .size in
     let a = lowCorner c k (pos 0) (pos 0) in
     let b = lowCorner c k (pos 1) (pos 1) in
-    decided (g .near) (g .far) (squared m a ∷ squared m (lowCorner c k (pos 0) (pos 1)) ∷ squared m (lowCorner c k (pos 1) (pos 0)) ∷ squared m b ∷ []) (meets (seg (m .segment)) a b)
+    decided (g .close) (g .far) (squared m a ∷ squared m (lowCorner c k (pos 0) (pos 1)) ∷ squared m (lowCorner c k (pos 1) (pos 0)) ∷ squared m b ∷ []) (meets (seg (m .segment)) a b)

@@ -4,6 +4,7 @@ use mathlib.Core.Path.{_≡_}
 use mathlib.Core.Bool.{true, cond}
 use lib.Ieee.{Float, binary64, sub, mul, neg, lt, le}
 use Rattle.ieee.specs.Constants.{nought, pow2}
+use Rattle.model.specs.Cell.{W}
 use Rattle.plane.specs.Edge.{edgeOf}
 use Rattle.segment.specs.declared.measured.Measured.{Measured}
 use Rattle.segment.specs.declared.near.Proximity.{Proximity}
@@ -23,7 +24,7 @@ pub record SmallLine (m : Measured) : Type 0 where
 
 pub record Wide (g : Proximity) (side : Float) : Type 0 where
   pub above : le nought side ≡ true
-  pub near : le (g .near) (mul binary64 side side) ≡ true
+  pub close : le (g .close) (mul binary64 side side) ≡ true
   pub far : le (g .far) (mul binary64 side side) ≡ true
   pub size : le nought (g .size) ≡ true
   pub most : le (g .size) (pow2 100) ≡ true
@@ -49,4 +50,4 @@ pub record Below (side a b drift x : Float) : Type 0 where
 pub record IsSpan (side a b u l size : Float) (s : Span) : Type 0 where
   pub low : 0 < s .low → Below side a b (down u l) (edgeOf size (s .low - 1))
   pub high : s .high < 4294967295 → Above side a b (up u l) (edgeOf size (s .high + 1))
-  pub range : s .low < 4294967296
+  pub range : s .low < W

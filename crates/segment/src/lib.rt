@@ -1,4 +1,5 @@
-// Points, vectors and segments of floats (the Rust's occupancy/util.rs), step for step.
+// Segments of floats (the Rust's occupancy/util.rs), step for step: where they cross a line, how far away a point is, the near test;
+// and the least and the greatest of some floats.
 pub mod line;
 pub mod many;
 mod measured;

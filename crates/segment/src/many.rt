@@ -5,14 +5,13 @@ use crate::measured::Measured;
 use crate::near::Proximity;
 use crate::spans;
 use crate::spans::Span;
+use sizes::COLUMN;
 ghost use mathlib.Core.Path.{_≡_};
-ghost use mathlib.Core.Bool.{_&&_};
-ghost use Rattle.segment.specs.Many.{Ready, inSpans};
-ghost use Rattle.segment.specs.Near.{nearBy};
+ghost use Rattle.segment.specs.Many.{Ready, prepared};
 
 pub struct NearTest {
     pub(crate) line: Measured,
-    pub(crate) reach: Proximity,
+    pub(crate) proximity: Proximity,
     pub(crate) columns: Span,
     pub(crate) rows: Span,
 }
@@ -20,26 +19,26 @@ pub struct NearTest {
 impl NearTest {
     // For as many cells: for one or two the spans are not worth their while. A little more than the limit is needed aside,
     // since the limit's own square is rounded.
-    pub fn new(s: LineSegment, reach: Proximity, cells: usize) -> Self
-        ensures { λ r. ⌜ Ready s reach r ⌝ }
+    pub fn new(s: LineSegment, proximity: Proximity, cells: usize) -> Self
+        ensures { λ r. ⌜ Ready s proximity r ⌝ }
     {
         let line = s.measured();
-        let side = reach.limit * 1.000001;
-        if 2 < cells && spans::small_line(line) && spans::wide(reach, side) {
+        let side = proximity.limit * 1.000001;
+        if 2 < cells && spans::small_line(line) && spans::wide(proximity, side) {
             let ends = line.segment;
             let a = ends.p0;
             let b = ends.p1;
             let u = line.unit;
             return NearTest {
                 line,
-                reach,
-                columns: spans::span_of(side, a.x, b.x, u.x, line.length, reach.size),
-                rows: spans::span_of(side, a.y, b.y, u.y, line.length, reach.size),
+                proximity,
+                columns: spans::span_of(side, a.x, b.x, u.x, line.length, proximity.size),
+                rows: spans::span_of(side, a.y, b.y, u.y, line.length, proximity.size),
             };
         }
         NearTest {
             line,
-            reach,
+            proximity,
             columns: Span {
                 low: 0,
                 high: 4294967295,
@@ -52,16 +51,16 @@ impl NearTest {
     }
 
     pub fn passes(self, cell: u64) -> bool
-        ensures { λ r. ⌜ r ≡ (inSpans self cell && nearBy (self .line) (self .reach) cell) ⌝ }
+        ensures { λ r. ⌜ r ≡ prepared self cell ⌝ }
     {
-        let x = (cell / 4294967296) as u32;
-        let y = (cell % 4294967296) as u32;
+        let x = (cell / COLUMN) as u32;
+        let y = (cell % COLUMN) as u32;
         let out = spans::outside(x, self.columns.low, self.columns.high)
             | spans::outside(y, self.rows.low, self.rows.high);
         if 9223372036854775808 <= out {
             return false;
         }
         let line = self.line;
-        line.passes_near(self.reach, cell)
+        line.passes_near(self.proximity, cell)
     }
 }

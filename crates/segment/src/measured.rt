@@ -40,7 +40,7 @@ impl LineSegment {
 
 impl Measured {
     // The square of the distance: what the root is taken of. All three squares are worked out before
-    // one is picked, since where a point lies cannot be foretold and a wrong guess costs more.
+    // one is picked, since where a point lies cannot be predicted and a wrong guess costs more.
     pub(crate) fn square_to(self, p: Point) -> f64
         ensures { λ r. ⌜ r ≡ squared self (pt p) ⌝ }
     {

@@ -9,13 +9,13 @@ ghost use Rattle.model.specs.Segment.{passesNear};
 ghost use Rattle.segment.specs.Near.{IsProximity, nearBy};
 ghost use Rattle.segment.specs.Values.{seg};
 
-// A cell size and a radius as the near test needs them: a corner whose square is below `near` is
+// A cell size and a radius as the near test needs them: a corner whose square is below `close` is
 // nearer than the radius, and one whose square is `far` or above is at the limit or beyond it, too far
 // for any part of the cell.
 pub struct Proximity {
     pub size: f64,
     pub limit: f64,
-    pub near: f64,
+    pub close: f64,
     pub far: f64,
 }
 
@@ -28,7 +28,7 @@ impl Proximity {
         Proximity {
             size,
             limit,
-            near: ieee::threshold::root_threshold(radius),
+            close: ieee::threshold::root_threshold(radius),
             far: ieee::threshold::root_threshold(limit),
         }
     }
@@ -36,17 +36,17 @@ impl Proximity {
 
 impl Measured {
     // The corners in the Rust's order; where none decides, the remaining steps do.
-    pub(crate) fn passes_near(self, reach: Proximity, cell: u64) -> bool
-        ensures { λ r. ⌜ r ≡ nearBy self reach cell ⌝ }
+    pub(crate) fn passes_near(self, proximity: Proximity, cell: u64) -> bool
+        ensures { λ r. ⌜ r ≡ nearBy self proximity cell ⌝ }
     {
-        let size = reach.size;
+        let size = proximity.size;
         let mut i = 0;
         while i < 4 {
             let q = self.square_to(corner(cell, i, size));
-            if q < reach.near {
+            if q < proximity.close {
                 return true;
             }
-            if reach.far <= q {
+            if proximity.far <= q {
                 return false;
             }
             i += 1;

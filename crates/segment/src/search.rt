@@ -52,7 +52,7 @@ impl SearchF64 {
         }
     }
 
-    // Lent and updated where it stands, as in the Rust.
+    // Lent and updated in place, as in the Rust.
     pub fn check_min(&mut self, other: f64)
         ensures { λ _. ⌜ now (self .exit) ≡ kept (checkMin (held (now (self .entry))) other) ⌝ }
     {

@@ -9,6 +9,7 @@ ghost use mathlib.Core.Path.{_≡_};
 ghost use mathlib.Core.Bool.{true, _&&_};
 ghost use Prim.Native.Nat.{_+_, _-_, _<_};
 ghost use lib.Dec.{leb, ltb};
+ghost use Rattle.model.specs.Cell.{W};
 ghost use Rattle.plane.specs.Edge.{edgeOf};
 ghost use Rattle.segment.specs.Spans.{Above, Below, IsSpan, Small, SmallLine, Wide, down, up};
 
@@ -47,7 +48,7 @@ pub(crate) fn small_line(m: Measured) -> bool
 pub(crate) fn wide(g: Proximity, side: f64) -> bool
     ensures { λ r. ⌜ (r ≡ true → Wide g side) ⌝ }
 {
-    if 0.0 <= side && g.near <= side * side && g.far <= side * side {
+    if 0.0 <= side && g.close <= side * side && g.far <= side * side {
         if 0.0 <= g.size && g.size <= 1267650600228229401496703205376.0 {
             return true;
         }
@@ -72,7 +73,7 @@ fn last(side: f64, a: f64, b: f64, drift: f64, size: f64) -> u32
 
 // The first column to look at: x is where the one before begins.
 fn first(side: f64, a: f64, b: f64, drift: f64, size: f64) -> u32
-    ensures { λ r. ⌜ (0 < r → Below side a b drift (edgeOf size (r - 1))) × (r < 4294967296) ⌝ }
+    ensures { λ r. ⌜ (0 < r → Below side a b drift (edgeOf size (r - 1))) × (r < W) ⌝ }
 {
     let n = ieee::whole::column_of((ieee::pick::min(a, b) - side) / size);
     if 0 < n {
@@ -113,7 +114,7 @@ pub(crate) fn span_of(side: f64, a: f64, b: f64, u: f64, length: f64, size: f64)
 }
 
 // The top bit, where n is not in the span: a difference below zero has it. So one branch serves for four
-// tests, of which none can be foretold.
+// tests, of which none can be predicted.
 pub(crate) fn outside(n: u32, low: u32, high: u32) -> u64
     ensures { λ r. ⌜ ltb r 9223372036854775808 ≡ (leb low n && leb n high) ⌝ }
 {

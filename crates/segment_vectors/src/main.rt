@@ -1,5 +1,5 @@
 // Replays the vectors on standard input: each line is a letter for the function and seven operands of sixteen
-// digits, 121 bytes in all, and comes back with the answer behind it. What the Rust answers is in the file
+// digits, 121 bytes in all, and comes back with the answer after it. What the Rust answers is in the file
 // stdout beside src/.
 //
 // v, h  p0.x p0.y p1.x p1.y, and x or y: vertical_intersect, horizontal_intersect

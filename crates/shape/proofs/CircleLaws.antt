@@ -60,11 +60,11 @@ module _ (p : Pt) (square : Float) (p0 p1 : Pt) where
 
 -- ---- a cell: dp is from its centre, a and b are its outer corners
 module _ (g : Circle) (k : ℕ) (dp : Pt) (away : dp ≡ minus (pt (g .p)) (centre (g .size) k)) where
-  pub meets-near : lt (dot dp dp) (g .near) ≡ true → true ≡ circleMeets g k
+  pub meets-close : lt (dot dp dp) (g .close) ≡ true → true ≡ circleMeets g k
   unfolding circleMeets
-  meets-near y = rw (← away, y) refl
+  meets-close y = rw (← away, y) refl
 
-  module _ (on : lt (dot dp dp) (g .near) ≡ false) where
+  module _ (on : lt (dot dp dp) (g .close) ≡ false) where
     pub meets-far : le (g .far) (dot dp dp) ≡ true → false ≡ circleMeets g k
     unfolding circleMeets
     meets-far y = rw (← away, on, y) refl

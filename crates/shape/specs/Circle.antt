@@ -12,7 +12,7 @@ unfoldable pub circleOf : Float → Pt → Float → Circle
 circleOf c p r =
     let m = add binary64 r (div binary64 c (pow2 1)) in
     let n = add binary64 r (div binary64 (mul binary64 root2 c) (pow2 1)) in
-    record { size = c; p = record { x = p .x; y = p .y }; radius = r; square = mul binary64 r r; near = mul binary64 m m; far = mul binary64 n n }
+    record { size = c; p = record { x = p .x; y = p .y }; radius = r; square = mul binary64 r r; close = mul binary64 m m; far = mul binary64 n n }
 
 -- the model's `pointInside` and `lineInside`, with the radius's square handed in
 unfoldable pub pointWithin : Pt → Float → Pt → Bool
@@ -50,4 +50,4 @@ circleMeets g k =
     let left = line (pos 0) (pos 0) (pos 0) (pos 1) in
     let top = line (pos 0) (pos 1) (pos 1) (pos 1) in
     let bottom = line (pos 0) (pos 0) (pos 1) (pos 0) in
-    lt far (g .near) || (not (le (g .far) far) && (facing (dp .x) right left || facing (dp .y) top bottom))
+    lt far (g .close) || (not (le (g .far) far) && (facing (dp .x) right left || facing (dp .y) top bottom))

@@ -7,13 +7,13 @@ ghost use Rattle.plane.specs.Values.{pt, vec};
 ghost use Rattle.shape.specs.Circle.{circleOf, pointWithin, lineWithin, facing, sidesWithin, circleMeets};
 
 // What is the same for all cells. `square` is the radius's square. A cell whose centre's distance has a
-// square below `near` is met, and one where it is `far` or above is not.
+// square below `close` is met, and one where it is `far` or above is not.
 pub struct Circle {
     pub size: f64,
     pub p: Point,
     pub radius: f64,
     pub square: f64,
-    pub near: f64,
+    pub close: f64,
     pub far: f64,
 }
 
@@ -61,14 +61,15 @@ impl Circle {
             p,
             radius,
             square: radius * radius,
-            near: m * m,
+            close: m * m,
             far: n * n,
         }
     }
 
     // Of two opposite sides, from `high` to b and from a to `low`, the one that faces the circle.
     fn facing_inside(self, d: f64, high: Point, b: Point, a: Point, low: Point) -> bool
-        ensures { λ r. ⌜ r ≡ facing d (lineWithin (pt (self .p)) (self .square) (pt high) (pt b)) (lineWithin (pt (self .p)) (self .square) (pt a) (pt low)) ⌝ }
+        ensures { λ r. ⌜ r ≡ facing d (lineWithin (pt (self .p)) (self .square) (pt high) (pt b))
+            (lineWithin (pt (self .p)) (self .square) (pt a) (pt low)) ⌝ }
     {
         let p = self.p;
         let square = self.square;
@@ -101,7 +102,7 @@ impl Circle {
         let p = self.p;
         let dp = p.minus(cell::centre(cell, size));
         let far = dp.dot(dp);
-        if far < self.near {
+        if far < self.close {
             return true;
         }
         if self.far <= far {

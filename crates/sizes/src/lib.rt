@@ -36,8 +36,15 @@ pub const LEAST_ASKED: i64 = -MOST_ASKED;
 // The largest shift of a radius.
 pub const SHIFT: i64 = 64;
 
-// From a cell's key to the key of the next cell in its row: keys of one column are COLUMN apart from those of the next.
+// Keys of a column: from a cell's key to that of the next cell in its row.
 pub const COLUMN: u64 = 4294967296;
+
+// From a cell's key to the key two, three and four columns on.
+pub const TWO_COLUMNS: u64 = 2 * COLUMN;
+
+pub const THREE_COLUMNS: u64 = 3 * COLUMN;
+
+pub const FOUR_COLUMNS: u64 = 4 * COLUMN;
 
 // Bytes of a field of a map file that has most: a tag, a length of two bytes and BATCH entries of nine bytes.
 pub const WINDOW: usize = 3 + 9 * BATCH;

@@ -8,7 +8,7 @@ pub mod FillLaws
 pub mod Front
 pub mod ListedLaws
 pub mod LookLaws
-pub mod NearLaws
+pub mod DoublingLaws
 pub mod Parts
 pub mod RankLaws
 pub mod SearchLaws

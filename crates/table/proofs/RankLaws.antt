@@ -65,4 +65,4 @@ rank-splits lo k (x ∷ l) a = ⊎-elim (less (rank-splits (suc x) k l (a .1))) 
 -- ---- the search: k's place is at most n places after `at`, and one look halves n
 pub record Between (k : ℕ) (l : List ℕ) (at n : ℕ) : Type 0 where
   pub inside : at + n ≤ length l
-  pub near : AscL 0 l → (at ≤ rank k l) × (rank k l ≤ at + n)
+  pub ends : AscL 0 l → (at ≤ rank k l) × (rank k l ≤ at + n)

@@ -51,11 +51,11 @@ begun-between k l p some h j = go (ltb (getD l (p - 1) 0) k) (ltb-true (getD l (
     go : (b : Bool) → (b ≡ true → getD l (p - 1) 0 < k) → (b ≡ false → k ≤ getD l (p - 1) 0) → Between k l (cond b (length l - p) 0) p
     go true f g = record {
       inside = omega arith;
-      near = λ a. let q : p - 1 < rank k l = rank-above 0 k l (p - 1) a (omega arith) (f refl) in omega (arith, rank-le k l);
+      ends = λ a. let q : p - 1 < rank k l = rank-above 0 k l (p - 1) a (omega arith) (f refl) in omega (arith, rank-le k l);
     }
     go false f g = record {
       inside = omega arith;
-      near = λ a. let q : rank k l ≤ p - 1 = rank-below k l (p - 1) (omega arith) (g refl) in omega arith;
+      ends = λ a. let q : rank k l ≤ p - 1 = rank-below k l (p - 1) (omega arith) (g refl) in omega arith;
     }
 
 -- a look halves what is left
@@ -66,11 +66,11 @@ looked-between k l at h m some le half b = go (ltb (getD l (at + h - 1) 0) k) (l
     go : (t : Bool) → (t ≡ true → getD l (at + h - 1) 0 < k) → (t ≡ false → k ≤ getD l (at + h - 1) 0) → Between k l (at + cond t h 0) (m - h)
     go true f g = record {
       inside = omega (arith, b .inside);
-      near = λ a. let q : at + h - 1 < rank k l = rank-above 0 k l (at + h - 1) a (omega (arith, b .inside)) (f refl) in omega (arith, b .near a);
+      ends = λ a. let q : at + h - 1 < rank k l = rank-above 0 k l (at + h - 1) a (omega (arith, b .inside)) (f refl) in omega (arith, b .ends a);
     }
     go false f g = record {
       inside = omega (arith, b .inside);
-      near = λ a. let q : rank k l ≤ at + h - 1 = rank-below k l (at + h - 1) (omega (arith, b .inside)) (g refl) in omega (arith, b .near a);
+      ends = λ a. let q : rank k l ≤ at + h - 1 = rank-below k l (at + h - 1) (omega (arith, b .inside)) (g refl) in omega (arith, b .ends a);
     }
 
 -- ---- as the loop has them: the place is at most 2 ^ s places further
@@ -94,7 +94,7 @@ within-last k l at s z b =
     let e : s ≡ 0 = omega arith in
     let o : Between k l at 1 = rw e at b in
     let n = looked-between k l at 1 1 (omega arith) (omega arith) (omega arith) o in
-    record { inside = omega (arith, n .inside); place = λ a. omega (arith, n .near a) }
+    record { inside = omega (arith, n .inside); place = λ a. omega (arith, n .ends a) }
 
 -- what a look reads is there
 pub within-room : (k : ℕ) (l : List ℕ) (at s : ℕ) → 0 < s → Within k l at s → at + 2 ^ (s - 1) ≤ length l

@@ -1,4 +1,4 @@
--- A table of keys as a list: where a key stands, and the table after a key went in or out. Definitions only.
+-- A table of keys as a list: where a key is, and the table after a key went in or out. Definitions only.
 use Prim.Native.Nat.{ℕ, suc, _+_, _-_, _≤_, _<_}
 use mathlib.Core.Path.{_≡_}
 use mathlib.Core.Bool.{Bool, cond, _&&_}
@@ -12,7 +12,7 @@ abbrev pub All : (ℕ → Type 0) → List ℕ → Type 0
 All P [] = Unit {0}
 All P (x ∷ l) = P x × All P l
 
--- how many entries at the front are below k: where k stands, or would stand
+-- how many entries at the front are below k: where k is, or would be
 unfoldable pub rank : ℕ → List ℕ → ℕ
 rank k [] = 0
 rank k (x ∷ l) = let r = suc (rank k l) in cond (ltb x k) r 0
@@ -21,11 +21,11 @@ rank k (x ∷ l) = let r = suc (rank k l) in cond (ltb x k) r 0
 abbrev pub stands : ℕ → ℕ → List ℕ → Bool
 stands k at l = ltb at (length l) && eqb k (getD l at 0)
 
--- l, with zeros behind it up to cap places
+-- l, and zeros after it up to cap places
 abbrev pub pad : ℕ → List ℕ → List ℕ
 pad cap l = l ++ replicate (cap - length l) 0
 
--- t holds ascending keys in its first n places, and zeros behind
+-- t holds ascending keys in its first n places, and the unused rest is zero
 pub record Table (t : List ℕ) (n : ℕ) : Type 0 where
   pub room : n ≤ length t
   pub asc : AscL 0 (take n t)
@@ -36,12 +36,12 @@ abbrev pub shiftUp : List ℕ → List ℕ
 shiftUp [] = []
 shiftUp (x ∷ l) = x ∷ take (length l) (x ∷ l)
 
--- every entry one place down: the first falls off, and a zero stands last
+-- every entry one place down: the first is lost, and the last is zero
 abbrev pub shiftDown : List ℕ → List ℕ
 shiftDown [] = []
 shiftDown (x ∷ l) = l ++ (0 ∷ [])
 
--- k at a place, what stood there and behind it one place up, and the last fallen off
+-- k at a place, what was there and after it one place up; the last is lost
 abbrev pub putAt : ℕ → ℕ → List ℕ → List ℕ
 putAt at k l = take at l ++ k ∷ take (length l - (at + 1)) (drop at l)
 

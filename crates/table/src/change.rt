@@ -1,4 +1,4 @@
-// Keys put into a table and taken out. The used part stands first, and zeros behind it.
+// Keys put into a table and taken out. The used part comes first, and the unused rest is zero.
 use crate::place::place;
 use crate::place::stands_at;
 ghost use mathlib.Core.Path.{_≡_};
@@ -7,7 +7,7 @@ ghost use lib.ListN.{length};
 ghost use Rattle.model.specs.Maps.{cut};
 ghost use Rattle.table.specs.Tables.{Changed, added, putAt, shiftDown, shiftUp};
 
-// Every entry one place up, from the end down: the last falls off, the first stays.
+// Every entry one place up, from the end down: the last is lost, the first stays.
 fn shift_up(t: &mut [u64])
     ensures { λ _. ⌜ now (t .exit) ≡ shiftUp (now (t .entry)) ⌝ }
 {
@@ -18,7 +18,7 @@ fn shift_up(t: &mut [u64])
     }
 }
 
-// Every entry one place down: the first falls off, and a zero is written last.
+// Every entry one place down: the first is lost, and a zero is written last.
 fn shift_down(t: &mut [u64])
     ensures { λ _. ⌜ now (t .exit) ≡ shiftDown (now (t .entry)) ⌝ }
 {

@@ -1,5 +1,6 @@
 // A column of a table, and its rows, as stretches of the caller's table.
 use crate::place::place;
+use sizes::COLUMN;
 ghost use mathlib.Core.Path.{_≡_};
 ghost use Prim.Native.Nat.{ℕ, _*_, _≤_};
 ghost use lib.ListN.{length};
@@ -8,11 +9,8 @@ ghost use Rattle.model.specs.Maps.{AscL};
 ghost use Rattle.table.specs.Columns.{InColumn, columnOf, rowsFrom};
 ghost use Rattle.table.specs.Tables.{rank};
 
-// Keys from one column to the next; there are as many columns.
-const WIDTH: u64 = 4294967296;
-
-// The place of a key that stands near the front: the stretch that is searched begins with one key and doubles.
-fn place_near(t: &[u64], k: u64) -> usize
+// The place of a key, looked for from the front: the stretch that is searched begins with one key and doubles.
+fn place_from(t: &[u64], k: u64) -> usize
     ensures { λ r. ⌜ (r ≤ length (now (t .entry))) × (AscL 0 (now (t .entry)) → r ≡ rank k (now (t .entry))) ⌝ }
 {
     let mut at = 0;
@@ -27,12 +25,12 @@ fn place_near(t: &[u64], k: u64) -> usize
     at + place(&t[at..], k)
 }
 
-// Where column x begins, or would begin: who goes from column to column finds it near the front.
+// Where column x begins, or would begin: a walk from column to column finds it among the first keys.
 fn begin(t: &[u64], x: u64) -> usize
     ensures { λ r. ⌜ (r ≤ length (now (t .entry))) × (AscL 0 (now (t .entry)) → r ≡ rank (x * W) (now (t .entry))) ⌝ }
 {
-    if x < WIDTH {
-        return place_near(t, x * WIDTH);
+    if x < COLUMN {
+        return place_from(t, x * COLUMN);
     }
     t.len()
 }
@@ -41,7 +39,7 @@ fn begin(t: &[u64], x: u64) -> usize
 pub fn column(t: &[u64], x: u64) -> &[u64]
     ensures { λ r. ⌜ (AscL 0 (now (t .entry)) → now r ≡ columnOf x (now (t .entry))) ⌝ }
 {
-    if WIDTH <= x {
+    if COLUMN <= x {
         return &t[..0];
     }
     let a = begin(t, x);
@@ -53,9 +51,9 @@ pub fn column(t: &[u64], x: u64) -> &[u64]
 pub fn rows_from(col: &[u64], y: u64) -> &[u64]
     ensures { λ r. ⌜ ((x : ℕ) → AscL 0 (now (col .entry)) → InColumn x (now (col .entry)) → now r ≡ rowsFrom y (now (col .entry))) ⌝ }
 {
-    if col.len() == 0 || WIDTH <= y {
+    if col.len() == 0 || COLUMN <= y {
         return &col[..0];
     }
-    let at = place(col, col[0] / WIDTH * WIDTH + y);
+    let at = place(col, col[0] / COLUMN * COLUMN + y);
     &col[at..]
 }

@@ -21,9 +21,9 @@ pub fn copy(from: &[u64], to: &mut [u64])
 pub fn clear(t: &mut [u64])
     ensures { λ r. ⌜ now (t .exit) ≡ replicate (length (now (t .entry))) 0 ⌝ }
 {
-    let mut at = 0;
-    while at < t.len() {
-        t[at] = 0;
-        at += 1;
+    let mut i = 0;
+    while i < t.len() {
+        t[i] = 0;
+        i += 1;
     }
 }

@@ -1,5 +1,5 @@
-// A search by powers of two, look by look. No branch hangs on what is seen: on x86-64 a search that halves compiles to a
-// jump on every look, and half of these are foretold wrong.
+// A search by powers of two, look by look. No branch depends on what is seen: on x86-64 a search that halves compiles to a
+// jump on every look, and half of these are predicted wrong.
 ghost use mathlib.Core.Path.{_≡_};
 ghost use Prim.Native.Nat.{_+_, _^_, _<_, _≤_};
 ghost use lib.ListN.{length};

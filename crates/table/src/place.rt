@@ -1,4 +1,4 @@
-// Where a key stands in a table.
+// The place of a key in a table.
 use crate::look::begin;
 use crate::look::exponent;
 use crate::look::look;
@@ -9,7 +9,7 @@ ghost use lib.ListN.{length};
 ghost use Rattle.model.specs.Maps.{AscL, has};
 ghost use Rattle.table.specs.Tables.{rank, stands};
 
-// How many keys are below k: where k stands, or would stand.
+// How many keys are below k: where k is, or would be.
 pub fn place(t: &[u64], k: u64) -> usize
     ensures { λ r. ⌜ (r ≤ length (now (t .entry))) × (AscL 0 (now (t .entry)) → r ≡ rank k (now (t .entry))) ⌝ }
 {
@@ -39,7 +39,7 @@ pub fn contains(t: &[u64], k: u64) -> bool
         return false;
     }
     let at = place(t, k);
-    // Where k would stand behind the last key, the last is looked at, which is below k: no branch hangs on it.
+    // Where k would come after the last key, the last is looked at, which is below k: no branch depends on it.
     let i = at - (at == t.len()) as usize;
     k == t[i]
 }

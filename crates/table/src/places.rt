@@ -3,11 +3,15 @@ use crate::look::begin;
 use crate::look::exponent;
 use crate::look::look;
 use crate::look::power;
+use sizes::COLUMN;
+use sizes::FOUR_COLUMNS;
+use sizes::THREE_COLUMNS;
+use sizes::TWO_COLUMNS;
 ghost use mathlib.Core.Path.{_≡_};
 ghost use Prim.Native.Nat.{_+_, _*_, _^_, _<_, _≤_};
 ghost use lib.ListN.{length};
 ghost use Rattle.model.specs.Cell.{W};
-ghost use Rattle.table.specs.Search.{Each, Looked, Placed, begun};
+ghost use Rattle.table.specs.Search.{Each, LookedAll, Placed, begun};
 
 // One place in each of five columns.
 pub struct Places {
@@ -25,25 +29,24 @@ fn begin_all(t: &[u64], p: usize, low: u64) -> Places
 {
     Places {
         a: begin(t, p, low),
-        b: begin(t, p, low + 4294967296),
-        c: begin(t, p, low + 8589934592),
-        d: begin(t, p, low + 12884901888),
-        e: begin(t, p, low + 17179869184),
+        b: begin(t, p, low + COLUMN),
+        c: begin(t, p, low + TWO_COLUMNS),
+        d: begin(t, p, low + THREE_COLUMNS),
+        e: begin(t, p, low + FOUR_COLUMNS),
     }
 }
 
 // One look of each.
 fn look_all(t: &[u64], f: Places, s: u64, low: u64) -> Places
     requires { ⌜ (s < 64) × (low + 4 * W < 2 ^ 64) × Each (λ k at. at + 2 ^ s ≤ length (now t)) low (f .a) (f .b) (f .c) (f .d) (f .e) ⌝ }
-    ensures { λ r. ⌜ Looked (now (t .entry)) (2 ^ s) low (f .a) (r .a) × Looked (now (t .entry)) (2 ^ s) (low + W) (f .b) (r .b) × Looked (now (t .entry)) (2 ^ s) (low + 2 * W) (f .c) (r .c)
-        × Looked (now (t .entry)) (2 ^ s) (low + 3 * W) (f .d) (r .d) × Looked (now (t .entry)) (2 ^ s) (low + 4 * W) (f .e) (r .e) ⌝ }
+    ensures { λ r. ⌜ LookedAll (now (t .entry)) (2 ^ s) low f r ⌝ }
 {
     Places {
         a: look(t, f.a, s, low),
-        b: look(t, f.b, s, low + 4294967296),
-        c: look(t, f.c, s, low + 8589934592),
-        d: look(t, f.d, s, low + 12884901888),
-        e: look(t, f.e, s, low + 17179869184),
+        b: look(t, f.b, s, low + COLUMN),
+        c: look(t, f.c, s, low + TWO_COLUMNS),
+        d: look(t, f.d, s, low + THREE_COLUMNS),
+        e: look(t, f.e, s, low + FOUR_COLUMNS),
     }
 }
 
@@ -60,7 +63,10 @@ fn places_from(t: &[u64], low: u64) -> Places
     look_all(t, f, 0, low)
 }
 
-// The places of the keys low, low + 2^32, .. in the table, if all of them are keys.
+// From here on the last of five neighbouring columns is beyond all keys.
+const NO_FIFTH: u64 = u64::MAX - FOUR_COLUMNS + 1;
+
+// The places of the keys low, low + COLUMN, .. in the table, if all five are keys.
 pub fn places_of(t: &[u64], low: u64) -> Places
     ensures { λ r. ⌜ (low + 4 * W < 2 ^ 64 → Each (Placed (now (t .entry))) low (r .a) (r .b) (r .c) (r .d) (r .e)) ⌝ }
 {
@@ -73,7 +79,7 @@ pub fn places_of(t: &[u64], low: u64) -> Places
             e: 0,
         };
     }
-    if 18446744056529682432 <= low {
+    if NO_FIFTH <= low {
         return Places {
             a: 0,
             b: 0,

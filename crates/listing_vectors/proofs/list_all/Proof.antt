@@ -15,20 +15,8 @@ abbrev μ-loop : tie.MeasureT-loop
 loop-holds : tie.Need-loop-holds Inv-loop μ-loop
 loop-holds c = (refl, refl)
 
-name-of-requires : tie.Need-name-of-requires Inv-loop μ-loop
-name-of-requires c κs = tt
-
 slice-aggregate-list-file : tie.Need-slice-aggregate-list-file Inv-loop μ-loop
 slice-aggregate-list-file c = sym (ap length (c .before .name-of .ensures))
-
-list-file-requires : tie.Need-list-file-requires Inv-loop μ-loop
-list-file-requires c κs = tt
-
-add-n : tie.Need-add-n Inv-loop μ-loop
-add-n c = search needs
-
-loop-less : tie.Need-loop-less Inv-loop μ-loop
-loop-less c = search needs
 
 loop-again : tie.Need-loop-again Inv-loop μ-loop
 loop-again c =
@@ -42,17 +30,11 @@ same-length c = c .before .before .loop .inv .0
 same-length-2 : tie.Need-same-length-2 Inv-loop μ-loop
 same-length-2 c = c .before .before .loop .inv .1
 
-returns : tie.Need-returns Inv-loop μ-loop
-returns c = tt
-
 same-length-3 : tie.Need-same-length-3 Inv-loop μ-loop
 same-length-3 c = c .before .loop .inv .0
 
 same-length-4 : tie.Need-same-length-4 Inv-loop μ-loop
 same-length-4 c = c .before .loop .inv .1
-
-returns-2 : tie.Need-returns-2 Inv-loop μ-loop
-returns-2 c = tt
 
 pub list-all-spec : {M : Type 1} → statement M
 list-all-spec =
@@ -61,15 +43,15 @@ list-all-spec =
     Inv-loop
     μ-loop
     loop-holds
-    name-of-requires
+    (λ c κs. tt)
     slice-aggregate-list-file
-    list-file-requires
-    add-n
-    loop-less
+    (λ c κs. tt)
+    (λ c. search needs)
+    (λ c. search needs)
     loop-again
     same-length
     same-length-2
-    returns
+    (λ c. tt)
     same-length-3
     same-length-4
-    returns-2)
+    (λ c. tt))

@@ -1,4 +1,4 @@
--- `root::root::excess` meets its contract. Assumes nothing.
+-- `ieee::root::excess` meets its contract. Assumes nothing.
 use Prim.Native.Nat.{ℕ, _/_, _%_, _*_, _^_, _<_}
 use native.Mathlib.Omega.{arith}
 use mir.Syntax.{w64}

@@ -1,4 +1,4 @@
--- `root::root::root` meets its contract. The laws are in `proofs/RootCases.antt`. Assumes nothing.
+-- `ieee::root::root` meets its contract. The laws are in `proofs/RootCases.antt`. Assumes nothing.
 use mathlib.Core.Path.{_∙_}
 use lib.Ieee.{div, ofBits}
 use Rattle.ieee.specs.Constants.{nought}

@@ -1,4 +1,4 @@
--- `root::root::root_bits` meets its contract. Assumes nothing.
+-- `ieee::root::root_bits` meets its contract. Assumes nothing.
 use native.Mathlib.Omega.{arith}
 use mathlib.Core.Logic.{⊎-elim}
 use Rattle.ieee.proofs.RootLoop.{Turn, start, skipped, taken, ends}

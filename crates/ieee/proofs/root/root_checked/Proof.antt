@@ -1,4 +1,4 @@
--- `root::root::root_checked` meets its contract. Assumes nothing.
+-- `ieee::root::root_checked` meets its contract. Assumes nothing.
 use native.Mathlib.Omega.{arith}
 use mathlib.Core.Logic.{⊎-elim}
 use Rattle.ieee.proofs.RootChecked.{rounded-at, rounded-next, rounded-second}

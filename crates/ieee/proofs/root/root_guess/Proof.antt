@@ -1,4 +1,4 @@
--- `root::root::root_guess` meets its contract: the candidate is in range, and no step meets a NaN as a bit pattern. Assumes nothing.
+-- `ieee::root::root_guess` meets its contract: the candidate is in range, and no step meets a NaN as a bit pattern. Assumes nothing.
 use Prim.Native.Nat.{_+_, _-_, _*_, _/_}
 use native.Mathlib.Omega.{arith}
 use Rattle.ieee.proofs.RootBits.{no-nan-bits}

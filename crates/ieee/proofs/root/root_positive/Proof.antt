@@ -1,4 +1,4 @@
--- `root::root::root_positive` meets its contract. The laws are in `proofs/RootScaled.antt`. Assumes nothing.
+-- `ieee::root::root_positive` meets its contract. The laws are in `proofs/RootScaled.antt`. Assumes nothing.
 use native.Mathlib.Omega.{arith}
 use Rattle.ieee.specs.RootSteps.{bitUnits}
 use Rattle.ieee.proofs.RootScaled.{zeros-range, moved-scaled, moved-value, normal-value}

@@ -1,4 +1,4 @@
--- `root::root::root_scaled` meets its contract. The laws are in `proofs/RootScaled.antt`. Assumes nothing.
+-- `ieee::root::root_scaled` meets its contract. The laws are in `proofs/RootScaled.antt`. Assumes nothing.
 use native.Mathlib.Omega.{arith}
 use Rattle.ieee.proofs.RootScaled.{scaled-range, scaled-bits, scaled-root}
 use Rattle.ieee.proofs.RootBits.{no-nan-bits}

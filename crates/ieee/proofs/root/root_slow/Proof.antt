@@ -1,4 +1,4 @@
--- `root::root::root_slow` meets its contract. Assumes nothing.
+-- `ieee::root::root_slow` meets its contract. Assumes nothing.
 use Prim.Native.Nat.{_*_, _^_}
 use native.Mathlib.Omega.{arith}
 use Rattle.ieee.proofs.Squares.{root-lt}

@@ -1,4 +1,4 @@
--- `root::threshold::bisect` meets its contract. The loop's invariant: the root at `lo` is not at least b, and the one at `hi` is. Assumes nothing.
+-- `ieee::threshold::bisect` meets its contract. The loop's invariant: the root at `lo` is not at least b, and the one at `hi` is. Assumes nothing.
 use mathlib.Core.Path.{_∙_, sym}
 use Prim.Native.Nat.{_+_, _-_, _/_}
 use native.Mathlib.Omega.{arith}

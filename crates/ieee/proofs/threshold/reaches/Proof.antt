@@ -1,4 +1,4 @@
--- `root::threshold::reaches` meets its contract. Assumes nothing.
+-- `ieee::threshold::reaches` meets its contract. Assumes nothing.
 use mathlib.Core.Path.{ap}
 use lib.Ieee.{le}
 use borrow.Author.Needs.{needs}

@@ -1,4 +1,4 @@
--- `root::threshold::root_threshold` meets its contract. The laws are in `proofs/Thresholds.antt`. Assumes nothing.
+-- `ieee::threshold::root_threshold` meets its contract. The laws are in `proofs/Thresholds.antt`. Assumes nothing.
 use mathlib.Core.Path.{_≡_}
 use mathlib.Core.Bool.{true}
 use Prim.Native.Nat.{_-_, _*_, _^_, _≤_}
@@ -40,23 +40,23 @@ float-from-bits-q c =
     let h : n ≤ 2047 * 2 ^ 52 = above-range (s .args .b) (T-true (s .good .0 .1)) (above c) in
     no-nan-bits (n - 1) (omega arith)
 
-float-to-bits-near : tie.Need-float-to-bits-near
-float-to-bits-near c =
+float-to-bits-from-guess : tie.Need-float-to-bits-from-guess
+float-to-bits-from-guess c =
     let b = c .before .before .before .args .b in
     let q = mul binary64 b (ofBits binary64 (toBits binary64 b - 1)) in
     not-nan q (le-some-right (ofBits binary64 0) q (c .if3 .taken))
 
-near-requires : tie.Need-near-requires
-near-requires c κs = search needs
+from-guess-requires : tie.Need-from-guess-requires
+from-guess-requires c κs = search needs
 
 float-from-bits-result : tie.Need-float-from-bits-result
-float-from-bits-result c = no-nan-bits (c .before .near .result) (c .before .near .ensures (c .if4 .taken) .range)
+float-from-bits-result c = no-nan-bits (c .before .from-guess .result) (c .before .from-guess .ensures (c .if4 .taken) .range)
 
 returns-3 : tie.Need-returns-3
 returns-3 c =
     let at = c .before .before .before in
     let s = at .before .before in
-    first-threshold (s .args .b) (c .before .near .result) (T-true (s .good .0 .1)) (above at) (c .before .near .ensures (c .if4 .taken))
+    first-threshold (s .args .b) (c .before .from-guess .result) (T-true (s .good .0 .1)) (above at) (c .before .from-guess .ensures (c .if4 .taken))
 
 bisect-requires : tie.Need-bisect-requires
 bisect-requires c κs = above (c .before)
@@ -79,8 +79,8 @@ root-threshold-spec =
     float-to-bits-q
     sub-q
     float-from-bits-q
-    float-to-bits-near
-    near-requires
+    float-to-bits-from-guess
+    from-guess-requires
     float-from-bits-result
     returns-3
     bisect-requires

@@ -9,12 +9,6 @@ use Rattle.ieee.proofs.Floor.{IsCut, not-past-same, not-free-same, past
 use Rattle.ieee.proofs.whole.ceil_to_i64.Statement.{statement}
 use Rattle.ieee.proofs.whole.ceil_to_i64.Tie as tie
 
-cut-to-i64-requires : tie.Need-cut-to-i64-requires
-cut-to-i64-requires c κs = search needs
-
-nearest-i64-to-f64-requires : tie.Need-nearest-i64-to-f64-requires
-nearest-i64-to-f64-requires c κs = search needs
-
 -- what the two calls ensure
 known : (c : tie.After-nearest-i64-to-f64) → IsCut (c .before .before .args .x) (toZ w64 (ofZ w64 (c .before .cut-to-i64 .result))) (c .nearest-i64-to-f64 .result)
 known c = record { fit = T-true (c .before .before .good .0 .1); cut = stored _ (c .before .cut-to-i64 .ensures); float = c .nearest-i64-to-f64 .ensures }
@@ -32,4 +26,4 @@ returns-3 : tie.Need-returns-3
 returns-3 c = not-past-same false (known (c .before)) (c .if1 .left)
 
 pub ceil-to-i64-spec : {M : Type 1} → statement M
-ceil-to-i64-spec = tie.close (tie.spec cut-to-i64-requires nearest-i64-to-f64-requires add-result returns returns-2 returns-3)
+ceil-to-i64-spec = tie.close (tie.spec (λ c κs. search needs) (λ c κs. search needs) add-result returns returns-2 returns-3)

@@ -7,12 +7,12 @@ use borrow.Author.Needs.{needs}
 use Rattle.ieee.proofs.Tools.{not-nan}
 use Rattle.ieee.specs.Whole.{ceilZ}
 use Rattle.ieee.proofs.Bias.{biased-lt}
-use Rattle.ieee.proofs.Columns.{near-some, bits-least, ceil-column, beyond-column}
+use Rattle.ieee.proofs.Columns.{rounded-some, bits-least, ceil-column, beyond-column}
 use Rattle.ieee.proofs.whole.column_up.Statement.{statement}
 use Rattle.ieee.proofs.whole.column_up.Tie as tie
 
 float-to-bits-n : tie.Need-float-to-bits-n
-float-to-bits-n c = not-nan _ (near-some (c .before .before .args .x) (c .before .if1 .taken) (c .if2 .taken))
+float-to-bits-n c = not-nan _ (rounded-some (c .before .before .args .x) (c .before .if1 .taken) (c .if2 .taken))
 
 sub-n : tie.Need-sub-n
 sub-n c = bits-least (c .before .before .args .x) (c .before .if1 .taken) (c .if2 .taken)

@@ -32,36 +32,12 @@ y-is c =
 loop-holds : tie.Need-loop-holds Inv-loop μ-loop
 loop-holds c = (omega arith, refl)
 
-add-loop : tie.Need-add-loop Inv-loop μ-loop
-add-loop c = search needs
-
-mul-off-map : tie.Need-mul-off-map Inv-loop μ-loop
-mul-off-map c = search needs
-
-shared-slice-copy-out-off-map : tie.Need-shared-slice-copy-out-off-map Inv-loop μ-loop
-shared-slice-copy-out-off-map c = search needs
-
-off-map-requires : tie.Need-off-map-requires Inv-loop μ-loop
-off-map-requires c κs = tt
-
 returns : tie.Need-returns Inv-loop μ-loop
 returns c =
     let l = c .before .before .before .before in
     let b = l .before .args .batch .now in
     let i = l .loop .i in
     sym (l .loop .inv .1 ∙ outside-next b i (c .before .off-map .result) (offMap maxCoordinate (item b (i + 1))) (omega arith) (x-is (c .before)) refl ∙ rw (c .if1 .taken) refl)
-
-add-off-map : tie.Need-add-off-map Inv-loop μ-loop
-add-off-map c = search needs
-
-mul-off-map-2 : tie.Need-mul-off-map-2 Inv-loop μ-loop
-mul-off-map-2 c = search needs
-
-shared-slice-copy-out-off-map-2 : tie.Need-shared-slice-copy-out-off-map-2 Inv-loop μ-loop
-shared-slice-copy-out-off-map-2 c = search needs
-
-off-map-requires-2 : tie.Need-off-map-requires-2 Inv-loop μ-loop
-off-map-requires-2 c κs = tt
 
 -- what the two tests say of the entries from i on
 seen : (c : tie.After-off-map2 Inv-loop μ-loop) →
@@ -76,12 +52,6 @@ returns-2 : tie.Need-returns-2 Inv-loop μ-loop
 returns-2 c =
     let l = c .before .before .before .before .before .before .before in
     sym (l .loop .inv .1 ∙ seen (c .before) ∙ rw (c .if2 .taken) refl)
-
-add-i : tie.Need-add-i Inv-loop μ-loop
-add-i c = search needs
-
-loop-less : tie.Need-loop-less Inv-loop μ-loop
-loop-less c = search needs
 
 loop-again : tie.Need-loop-again Inv-loop μ-loop
 loop-again c =
@@ -100,17 +70,17 @@ outside-spec =
     Inv-loop
     μ-loop
     loop-holds
-    add-loop
-    mul-off-map
-    shared-slice-copy-out-off-map
-    off-map-requires
+    (λ c. search needs)
+    (λ c. search needs)
+    (λ c. search needs)
+    (λ c κs. tt)
     returns
-    add-off-map
-    mul-off-map-2
-    shared-slice-copy-out-off-map-2
-    off-map-requires-2
+    (λ c. search needs)
+    (λ c. search needs)
+    (λ c. search needs)
+    (λ c κs. tt)
     returns-2
-    add-i
-    loop-less
+    (λ c. search needs)
+    (λ c. search needs)
     loop-again
     returns-3)

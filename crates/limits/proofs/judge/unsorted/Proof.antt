@@ -38,55 +38,10 @@ seen c =
 loop-holds : tie.Need-loop-holds Inv-loop μ-loop
 loop-holds c = (omega arith, refl)
 
-add-loop : tie.Need-add-loop Inv-loop μ-loop
-add-loop c = search needs
-
-mul-before : tie.Need-mul-before Inv-loop μ-loop
-mul-before c = search needs
-
-shared-slice-copy-out-before : tie.Need-shared-slice-copy-out-before Inv-loop μ-loop
-shared-slice-copy-out-before c = search needs
-
-add-before : tie.Need-add-before Inv-loop μ-loop
-add-before c = search needs
-
-mul-before-2 : tie.Need-mul-before-2 Inv-loop μ-loop
-mul-before-2 c = search needs
-
-shared-slice-copy-out-before-2 : tie.Need-shared-slice-copy-out-before-2 Inv-loop μ-loop
-shared-slice-copy-out-before-2 c = search needs
-
-add-before-2 : tie.Need-add-before-2 Inv-loop μ-loop
-add-before-2 c = search needs
-
-mul-before-3 : tie.Need-mul-before-3 Inv-loop μ-loop
-mul-before-3 c = search needs
-
-shared-slice-copy-out-before-3 : tie.Need-shared-slice-copy-out-before-3 Inv-loop μ-loop
-shared-slice-copy-out-before-3 c = search needs
-
-add-before-3 : tie.Need-add-before-3 Inv-loop μ-loop
-add-before-3 c = search needs
-
-mul-before-4 : tie.Need-mul-before-4 Inv-loop μ-loop
-mul-before-4 c = search needs
-
-shared-slice-copy-out-before-4 : tie.Need-shared-slice-copy-out-before-4 Inv-loop μ-loop
-shared-slice-copy-out-before-4 c = search needs
-
-before-requires : tie.Need-before-requires Inv-loop μ-loop
-before-requires c κs = tt
-
 returns : tie.Need-returns Inv-loop μ-loop
 returns c =
     let l = c .before .before .before .before .before .before .before in
     sym (l .loop .inv .1 ∙ seen (c .before) ∙ rw (c .if1 .taken) refl)
-
-add-i : tie.Need-add-i Inv-loop μ-loop
-add-i c = search needs
-
-loop-less : tie.Need-loop-less Inv-loop μ-loop
-loop-less c = search needs
 
 loop-again : tie.Need-loop-again Inv-loop μ-loop
 loop-again c =
@@ -105,21 +60,21 @@ unsorted-spec =
     Inv-loop
     μ-loop
     loop-holds
-    add-loop
-    mul-before
-    shared-slice-copy-out-before
-    add-before
-    mul-before-2
-    shared-slice-copy-out-before-2
-    add-before-2
-    mul-before-3
-    shared-slice-copy-out-before-3
-    add-before-3
-    mul-before-4
-    shared-slice-copy-out-before-4
-    before-requires
+    (λ c. search needs)
+    (λ c. search needs)
+    (λ c. search needs)
+    (λ c. search needs)
+    (λ c. search needs)
+    (λ c. search needs)
+    (λ c. search needs)
+    (λ c. search needs)
+    (λ c. search needs)
+    (λ c. search needs)
+    (λ c. search needs)
+    (λ c. search needs)
+    (λ c κs. tt)
     returns
-    add-i
-    loop-less
+    (λ c. search needs)
+    (λ c. search needs)
     loop-again
     returns-2)

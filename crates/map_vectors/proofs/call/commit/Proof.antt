@@ -11,15 +11,6 @@ slice-aggregate-change c =
     let a = c .before .before .before .before .before .before .before .before .before .args in
     sym (length-take-le (a .state .used) (a .batch .now) (omega arith))
 
-change-requires : tie.Need-change-requires
-change-requires c κs = search needs
-
-with-requires : tie.Need-with-requires
-with-requires c κs = search needs
-
-returns : tie.Need-returns
-returns c = search needs
-
 pub commit-spec : {M : Type 1} → statement M
 commit-spec =
-    tie.close (tie.spec slice-aggregate-change change-requires with-requires returns)
+    tie.close (tie.spec slice-aggregate-change (λ c κs. search needs) (λ c κs. search needs) (λ c. search needs))

@@ -5,11 +5,8 @@ use Rattle.numbers_c.proofs.PlaceLaws.{side}
 use Rattle.numbers_c.proofs.cells.begin_of.Statement.{statement}
 use Rattle.numbers_c.proofs.cells.begin_of.Tie as tie
 
-nearest-i64-to-f64-requires : tie.Need-nearest-i64-to-f64-requires
-nearest-i64-to-f64-requires c κs = search needs
-
 returns : tie.Need-returns
 returns c = let s = c .before in side (mul binary64 (s .args .size)) (s .fits .n) (c .nearest-i64-to-f64 .ensures)
 
 pub begin-of-spec : {M : Type 1} → statement M
-begin-of-spec = tie.close (tie.spec nearest-i64-to-f64-requires returns)
+begin-of-spec = tie.close (tie.spec (λ c κs. search needs) returns)

@@ -6,12 +6,9 @@ use Rattle.numbers_c.proofs.PlaceLaws.{side}
 use Rattle.numbers_c.proofs.cells.middle_of.Statement.{statement}
 use Rattle.numbers_c.proofs.cells.middle_of.Tie as tie
 
-nearest-i64-to-f64-requires : tie.Need-nearest-i64-to-f64-requires
-nearest-i64-to-f64-requires c κs = search needs
-
 returns : tie.Need-returns
 unfolding centreF ofBits
 returns c = let s = c .before in side (centreF (s .args .size)) (s .fits .n) (c .nearest-i64-to-f64 .ensures)
 
 pub middle-of-spec : {M : Type 1} → statement M
-middle-of-spec = tie.close (tie.spec nearest-i64-to-f64-requires returns)
+middle-of-spec = tie.close (tie.spec (λ c κs. search needs) returns)

@@ -5,12 +5,6 @@ use Rattle.numbers_c.proofs.PlaceLaws.{place}
 use Rattle.numbers_c.proofs.cells.runcedau_bottom_left.Statement.{statement}
 use Rattle.numbers_c.proofs.cells.runcedau_bottom_left.Tie as tie
 
-begin-of-requires : tie.Need-begin-of-requires
-begin-of-requires c κs = search needs
-
-begin-of-requires-2 : tie.Need-begin-of-requires-2
-begin-of-requires-2 c κs = search needs
-
 returns : tie.Need-returns
 returns c =
     let s = c .before .before .before in
@@ -18,4 +12,4 @@ returns c =
     place (along (a .size)) (a .cell) (s .struct-told .given .0 .1) (c .before .struct-told2 .given .1 .0 .1) (c .before .before .begin-of .ensures) (c .begin-of2 .ensures)
 
 pub runcedau-bottom-left-spec : {M : Type 1} → statement M
-runcedau-bottom-left-spec = tie.close (tie.spec begin-of-requires begin-of-requires-2 returns)
+runcedau-bottom-left-spec = tie.close (tie.spec (λ c κs. search needs) (λ c κs. search needs) returns)

@@ -7,12 +7,6 @@ use mir.ValLaws.{toZ-ofZ}
 use Rattle.numbers_c.proofs.cells.runcedau_cell_of.Statement.{statement}
 use Rattle.numbers_c.proofs.cells.runcedau_cell_of.Tie as tie
 
-floor-to-i64-requires : tie.Need-floor-to-i64-requires
-floor-to-i64-requires c κs = search needs
-
-floor-to-i64-requires-2 : tie.Need-floor-to-i64-requires-2
-floor-to-i64-requires-2 c κs = search needs
-
 returns : tie.Need-returns
 returns c =
     let x = c .before .before .floor-to-i64 in
@@ -22,4 +16,4 @@ returns c =
     rw (toZ-ofZ w64 (x .result) f ∙ x .ensures, toZ-ofZ w64 (y .result) g ∙ y .ensures) refl
 
 pub runcedau-cell-of-spec : {M : Type 1} → statement M
-runcedau-cell-of-spec = tie.close (tie.spec floor-to-i64-requires floor-to-i64-requires-2 returns)
+runcedau-cell-of-spec = tie.close (tie.spec (λ c κs. search needs) (λ c κs. search needs) returns)

@@ -5,12 +5,6 @@ use Rattle.numbers_c.proofs.PlaceLaws.{place}
 use Rattle.numbers_c.proofs.cells.runcedau_centre.Statement.{statement}
 use Rattle.numbers_c.proofs.cells.runcedau_centre.Tie as tie
 
-middle-of-requires : tie.Need-middle-of-requires
-middle-of-requires c κs = search needs
-
-middle-of-requires-2 : tie.Need-middle-of-requires-2
-middle-of-requires-2 c κs = search needs
-
 returns : tie.Need-returns
 returns c =
     let s = c .before .before .before in
@@ -18,4 +12,4 @@ returns c =
     place (middle (a .size)) (a .cell) (s .struct-told .given .0 .1) (c .before .struct-told2 .given .1 .0 .1) (c .before .before .middle-of .ensures) (c .middle-of2 .ensures)
 
 pub runcedau-centre-spec : {M : Type 1} → statement M
-runcedau-centre-spec = tie.close (tie.spec middle-of-requires middle-of-requires-2 returns)
+runcedau-centre-spec = tie.close (tie.spec (λ c κs. search needs) (λ c κs. search needs) returns)

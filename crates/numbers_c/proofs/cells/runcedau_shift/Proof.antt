@@ -9,9 +9,6 @@ use Rattle.ieee.specs.Yard.{shiftF}
 use Rattle.numbers_c.proofs.cells.runcedau_shift.Statement.{statement}
 use Rattle.numbers_c.proofs.cells.runcedau_shift.Tie as tie
 
-ceil-to-i64-requires : tie.Need-ceil-to-i64-requires
-ceil-to-i64-requires c κs = search needs
-
 returns : tie.Need-returns
 unfolding ofBits odd shiftF
 returns c =
@@ -20,4 +17,4 @@ returns c =
     toZ-ofZ w64 z h ∙ c .ceil-to-i64 .ensures
 
 pub runcedau-shift-spec : {M : Type 1} → statement M
-runcedau-shift-spec = tie.close (tie.spec ceil-to-i64-requires returns)
+runcedau-shift-spec = tie.close (tie.spec (λ c κs. search needs) returns)

@@ -3,27 +3,20 @@ use Prim.Native.Nat.{ℕ, _-_, _*_, _^_, _≤_, _<_}
 use native.Mathlib.Omega.{arith}
 use mathlib.Core.Path.{_≡_, refl, sym, ap, _∙_}
 use borrow.Author.Tests.{le-leb, lt-leb}
-use mathlib.Core.Bool.{Bool, _&&_}
 use lib.ListN.{length, getD, length-set}
 use Rattle.table.proofs.Front.{mix}
 use Rattle.model.specs.Segment.{passesNear}
-use Rattle.segment.specs.Many.{inSpans}
-use Rattle.segment.specs.Near.{nearBy}
+use Rattle.segment.specs.Many.{prepared}
 use Rattle.segment.specs.Values.{seg}
-use Rattle.segment.specs.declared.many.NearTest.{NearTest}
 use Rattle.segment.proofs.SpanLaws.{prepared-near}
 use Rattle.numbers_c.specs.Cells.{number}
 use Rattle.numbers_c.proofs.CellsLaws.{answers, answer-more, told-nothing, told-all}
 use Rattle.numbers_c.proofs.segments.runcedau_near_cells.Statement.{statement}
 use Rattle.numbers_c.proofs.segments.runcedau_near_cells.Tie as tie
 
--- what the prepared test answers
-abbrev says : NearTest → ℕ → Bool
-says t k = inSpans t k && nearBy (t .line) (t .reach) k
-
 abbrev Inv-loop : tie.InvT-loop
 Inv-loop size radius cells near₀ test i₀ near i =
-    (i ≤ length cells) × (length near ≡ length near₀) × (near ≡ mix (answers (says test) cells) near₀ i)
+    (i ≤ length cells) × (length near ≡ length near₀) × (near ≡ mix (answers (prepared test) cells) near₀ i)
 
 abbrev μ-loop : tie.MeasureT-loop
 μ-loop size radius cells near₀ test i₀ near i = length cells - i
@@ -72,7 +65,7 @@ loop-again : tie.Need-loop-again Inv-loop μ-loop
 loop-again c =
     let l = c .before .before .before .before in
     let a = l .before .before .before .before .before .before .args in
-    let f = says (l .before .new2 .result) in
+    let f = prepared (l .before .new2 .result) in
     let e = c .byte .ensures ∙ ap number (c .before .passes .ensures) in
     let more = answer-more f (a .cells .now) (a .near .now) (l .loop .i) (omega arith) (omega arith) in
     (omega arith, length-set (l .loop .near) (l .loop .i) _ ∙ l .loop .inv .1, rw (e, l .loop .inv .2) more)
@@ -88,7 +81,7 @@ returns-2 c =
     let a = k .before .args in
     let l : length (a .cells .now) ≤ length (a .near .now) = omega arith in
     let i : c .before .loop .i ≡ length (a .cells .now) = omega arith in
-    let f = says (n .new2 .result) in
+    let f = prepared (n .new2 .result) in
     let same : (j : ℕ) → j < length (a .cells .now) → f (getD (a .cells .now) j 0) ≡ passesNear (seg (a .s)) (getD (a .cells .now) j 0) (a .size) (a .radius) =
     λ j h. prepared-near (a .s) (n .before .new .result) (n .new2 .result) (getD (a .cells .now) j 0) (a .size) (a .radius) (k .shared-slice-known .given j .fits) (n .new2 .ensures) (n .before .new .ensures) in (
       sym (le-leb (length (a .cells .now)) (length (a .near .now)) l),

@@ -17,15 +17,6 @@ start j = j .before .before .before
 due : (j : tie.After-judge) → let a = start j .args in j .judge .result ≡ refuseAsk (length (a .cells .now)) (a .floor .size) (a .floor .cells) (asked (a .question))
 due j = let a = start j .args in j .judge .ensures ∙ ap (refuseFloor (length (a .cells .now)) (a .floor .size) (a .floor .cells)) (j .before .bad-question .ensures)
 
-bad-question-requires : tie.Need-bad-question-requires
-bad-question-requires c κs = search needs
-
-judge-requires : tie.Need-judge-requires
-judge-requires c κs = search needs
-
-refused-requires : tie.Need-refused-requires
-refused-requires c κs = search needs
-
 returns : tie.Need-returns
 returns c =
     let j = c .before .before in
@@ -39,12 +30,6 @@ slice-aggregate-search c =
     let f = ask-fits (length (a .cells .now)) (a .floor .size) (a .floor .cells) (badQuestion (asked (a .question))) (sym (due j) ∙ c .before .if1 .left) in
     sym (length-take-le (a .floor .cells) (a .cells .now) (omega arith))
 
-search-requires : tie.Need-search-requires
-search-requires c κs = search needs
-
-place-of-requires : tie.Need-place-of-requires
-place-of-requires c κs = search needs
-
 returns-2 : tie.Need-returns-2
 returns-2 c =
     let s = c .before in
@@ -56,11 +41,11 @@ pub ask-spec : {M : Type 1} → statement M
 ask-spec =
     tie.close
     (tie.spec
-    bad-question-requires
-    judge-requires
-    refused-requires
+    (λ c κs. search needs)
+    (λ c κs. search needs)
+    (λ c κs. search needs)
     returns
     slice-aggregate-search
-    search-requires
-    place-of-requires
+    (λ c κs. search needs)
+    (λ c κs. search needs)
     returns-2)

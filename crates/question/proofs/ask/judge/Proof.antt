@@ -9,9 +9,6 @@ use Rattle.question.proofs.ask.judge.Tie as tie
 returns : tie.Need-returns
 returns c = let a = c .before .args in ask-short (a .room) (a .size) (a .cells) (a .bad) (c .if1 .taken)
 
-bad-size-requires : tie.Need-bad-size-requires
-bad-size-requires c κs = search needs
-
 returns-2 : tie.Need-returns-2
 returns-2 c =
     let s = c .before in
@@ -40,4 +37,4 @@ returns-5 c =
     sym (ap (λ (b : Bool). cond b 8 0) (c .if4 .left)) ∙ ask-query (a .room) (a .size) (a .cells) (a .bad) (s .before .if1 .left) (sym (s .bad-size .ensures) ∙ e .if2 .left) (c .before .if3 .left)
 
 pub judge-spec : {M : Type 1} → statement M
-judge-spec = tie.close (tie.spec returns bad-size-requires returns-2 returns-3 returns-4 returns-5)
+judge-spec = tie.close (tie.spec returns (λ c κs. search needs) returns-2 returns-3 returns-4 returns-5)

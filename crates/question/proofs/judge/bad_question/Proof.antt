@@ -5,33 +5,6 @@ use Rattle.model.specs.Refusal.{badQuestion}
 use Rattle.question.proofs.judge.bad_question.Statement.{statement}
 use Rattle.question.proofs.judge.bad_question.Tie as tie
 
-enum-known-question : tie.Need-enum-known-question
-enum-known-question c = search needs
-
-bad-point-requires : tie.Need-bad-point-requires
-bad-point-requires c κs = search needs
-
-enum-known-question-2 : tie.Need-enum-known-question-2
-enum-known-question-2 c = search needs
-
-bad-disc-requires : tie.Need-bad-disc-requires
-bad-disc-requires c κs = search needs
-
-enum-known-question-3 : tie.Need-enum-known-question-3
-enum-known-question-3 c = search needs
-
-bad-disc-requires-2 : tie.Need-bad-disc-requires-2
-bad-disc-requires-2 c κs = search needs
-
-enum-known-question-4 : tie.Need-enum-known-question-4
-enum-known-question-4 c = search needs
-
-bad-point-requires-2 : tie.Need-bad-point-requires-2
-bad-point-requires-2 c κs = search needs
-
-bad-disc-requires-3 : tie.Need-bad-disc-requires-3
-bad-disc-requires-3 c κs = search needs
-
 returns : tie.Need-returns
 unfolding badQuestion
 returns c = rw (c .before .before .question .given .1) (c .bad-point .ensures)
@@ -56,15 +29,15 @@ pub bad-question-spec : {M : Type 1} → statement M
 bad-question-spec =
     tie.close
     (tie.spec
-    enum-known-question
-    bad-point-requires
-    enum-known-question-2
-    bad-disc-requires
-    enum-known-question-3
-    bad-disc-requires-2
-    enum-known-question-4
-    bad-point-requires-2
-    bad-disc-requires-3
+    (λ c. search needs)
+    (λ c κs. search needs)
+    (λ c. search needs)
+    (λ c κs. search needs)
+    (λ c. search needs)
+    (λ c κs. search needs)
+    (λ c. search needs)
+    (λ c κs. search needs)
+    (λ c κs. search needs)
     returns
     returns-2
     returns-3

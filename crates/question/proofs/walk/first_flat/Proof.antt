@@ -1,153 +1,68 @@
 -- `walk::first_flat`: what is left of the table has the same first cell. Assumes nothing.
-use Prim.Native.Nat.{_-_, _<_}
+use Prim.Native.Nat.{_-_}
 use native.Mathlib.Omega.{arith}
-use mathlib.Core.Path.{_≡_, refl, sym, ap, _∙_}
+use mathlib.Core.Path.{sym, _∙_}
 use mathlib.Core.Bool.{and-true}
-use lib.ListN.{length, drop, getD}
+use lib.ListN.{getD, length}
 use borrow.Author.Needs.{needs}
 use Rattle.model.specs.Cell.{col, row}
-use Rattle.model.specs.Maps.{AscL, find}
 use Rattle.shape.specs.Bounds.{inBounds}
-use Rattle.question.specs.Walk.{flat, keyed, taken}
-use Rattle.question.proofs.WalkLaws.{below, cell-here, column-here, column-next, column-past, column-some, find-past, low-beyond, place-passed, row-beyond}
+use Rattle.question.specs.Walk.{Left, flat}
+use Rattle.question.proofs.WalkLaws.{Stepped, left-cell, left-end, left-past, left-step}
 use Rattle.question.proofs.walk.first_flat.Statement.{statement}
 use Rattle.question.proofs.walk.first_flat.Tie as tie
 
 abbrev Inv-loop : tie.InvT-loop
-Inv-loop cells columns rows i₀ i = AscL 0 cells → find (taken columns (flat rows)) cells ≡ find (below (columns .high) (flat rows)) (drop i cells)
+Inv-loop cells columns rows i₀ i = Left columns (flat rows) cells i
 
 abbrev μ-loop : tie.MeasureT-loop
 μ-loop cells columns rows i₀ i = length cells - i
 
--- the arguments, from the loop's test on; and that test, from what was found in the column on
+-- the arguments; the loop's test, from the test of the cell's column on; and that, from what was found in the column on
 abbrev start : tie.At-loop Inv-loop μ-loop → tie.Start Inv-loop μ-loop
-start p = p .before .before .before .before .before .before .before .before .before
+start p = p .before .before .before
 
-abbrev test : tie.After-flat-in Inv-loop μ-loop → tie.At-loop Inv-loop μ-loop
-test t = t .before .before .before .before .before .before .before .before .before
+abbrev test : tie.Else1 Inv-loop μ-loop → tie.At-loop Inv-loop μ-loop
+test e = e .before .before .before .before
 
--- the cell is in the table, and its column is looked at
-inside : (t : tie.After-flat-in Inv-loop μ-loop) → let p = test t in p .loop .i < length (start p .args .cells .now)
-inside t = t .before .before .before .before .before .before .before .before .loop-test .taken
+abbrev looked : tie.After-flat-in Inv-loop μ-loop → tie.Else1 Inv-loop μ-loop
+looked t = t .before .before .before .before .before
 
-below-high : (t : tie.After-flat-in Inv-loop μ-loop) → let p = test t in col (getD (start p .args .cells .now) (p .loop .i) 0) < start p .args .columns .high
-below-high t = t .before .before .before .before .before .if3 .left
+loop-holds : tie.Need-loop-holds Inv-loop μ-loop
+loop-holds c = let s = c .before .before .args in c .begin .ensures (flat (s .rows)) (λ x. omega arith)
 
 returns : tie.Need-returns Inv-loop μ-loop
 returns c =
-    let k = c .before .before in
-    let s = k .before .args in
-    λ a. ap keyed (low-beyond (s .columns) (flat (s .rows)) (s .cells .now) (omega arith) (λ i. k .shared-slice-known .given i .fits))
+    let p = c .before .before .before .before .before in
+    let s = start p .args in
+    left-past (s .columns) (flat (s .rows)) (s .cells .now) (p .loop .i) (p .loop .inv) (c .nothing .result) (c .nothing .ensures) (omega arith) (c .before .if1 .taken)
 
 returns-2 : tie.Need-returns-2 Inv-loop μ-loop
 returns-2 c =
-    let s = c .before .before .before .before .before .args in
-    λ a. ap keyed (row-beyond (s .columns) (flat (s .rows)) (s .cells .now) (s .rows) (λ x. refl) (c .if2 .taken))
+    let e = c .before .before in
+    let p = test e in
+    let s = start p .args in
+    left-cell (s .columns) (flat (s .rows)) (s .cells .now) (p .loop .i) (p .loop .inv) (e .before .before .before .loop-test .taken) (e .if1 .left) (and-true (inBounds (s .rows) (row (getD (s .cells .now) (p .loop .i) 0))) ∙ sym (c .before .in-rows .ensures) ∙ c .if2 .taken)
 
-mul-place : tie.Need-mul-place Inv-loop μ-loop
-mul-place c = omega arith
-
-add-place : tie.Need-add-place Inv-loop μ-loop
-add-place c = omega arith
-
-place-requires : tie.Need-place-requires Inv-loop μ-loop
-place-requires c κs = search needs
-
-loop-holds : tie.Need-loop-holds Inv-loop μ-loop
-loop-holds c =
-    let e = c .before .before .before in
-    let s = e .before .before .before .before .before .args in
-    λ a. place-passed (s .columns) (flat (s .rows)) (s .cells .now) (s .rows) (λ x. refl) (c .place .result) a (e .if2 .left) (c .place .ensures .1 a)
-
-mul-k : tie.Need-mul-k Inv-loop μ-loop
-mul-k c = omega arith
-
-shared-slice-read-k : tie.Need-shared-slice-read-k Inv-loop μ-loop
-shared-slice-read-k c = omega arith
+-- what was found in the column is the answer, or the walk goes on
+found : (t : tie.After-flat-in Inv-loop μ-loop) → let p = test (looked t) in let s = start p .args in Stepped (s .columns) (flat (s .rows)) (s .cells .now) (t .before .column .result .now) (p .loop .i) (t .flat-in .result)
+found t =
+    let e = looked t in
+    let p = test e in
+    let s = start p .args in
+    left-step (s .columns) (flat (s .rows)) (s .cells .now) (p .loop .i) (p .loop .inv) (e .before .before .before .loop-test .taken) (e .if1 .left) (t .before .column .result .now) (t .before .column .ensures) (t .flat-in .result) (t .flat-in .ensures (col (getD (s .cells .now) (p .loop .i) 0)))
 
 returns-3 : tie.Need-returns-3 Inv-loop μ-loop
-returns-3 c =
-    let p = c .before .before .before .before in
-    let s = start p .args in
-    λ a. ap keyed (sym (p .loop .inv a ∙ column-past (s .columns .high) (flat (s .rows)) (s .cells .now) (p .loop .i) (omega arith) a (omega arith)))
+returns-3 c = found (c .before) .here (c .if3 .taken)
 
-in-rows-requires : tie.Need-in-rows-requires Inv-loop μ-loop
-in-rows-requires c κs = search needs
+loop-again : tie.Need-loop-again Inv-loop μ-loop
+loop-again c = found (c .before .before) .next (c .before .if3 .left) (c .after .result) (c .after .ensures .1)
 
 returns-4 : tie.Need-returns-4 Inv-loop μ-loop
 returns-4 c =
-    let r = c .before in
-    let p = r .before .before .before .before .before in
+    let p = c .before .before in
     let s = start p .args in
-    let y = getD (s .cells .now) (p .loop .i) 0 in
-    λ a.
-    ap keyed
-    (sym (p .loop .inv a
-    ∙ cell-here (s .columns .high) (flat (s .rows)) (s .cells .now) (p .loop .i) (omega arith) a (omega arith) (and-true (inBounds (s .rows) (row y)) ∙ sym (r .in-rows .ensures) ∙ c .if4 .taken)))
-
-mul-column : tie.Need-mul-column Inv-loop μ-loop
-mul-column c = omega arith
-
-sub-column : tie.Need-sub-column Inv-loop μ-loop
-sub-column c = omega arith
-
-part-column-start : tie.Need-part-column-start Inv-loop μ-loop
-part-column-start c = omega arith
-
-part-column-end : tie.Need-part-column-end Inv-loop μ-loop
-part-column-end c = omega arith
-
-column-requires : tie.Need-column-requires Inv-loop μ-loop
-column-requires c κs = search needs
-
-flat-in-requires : tie.Need-flat-in-requires Inv-loop μ-loop
-flat-in-requires c κs = search needs
-
-returns-5 : tie.Need-returns-5 Inv-loop μ-loop
-returns-5 c =
-    let t = c .before in
-    let p = test t in
-    let s = start p .args in
-    let k = t .before in
-    λ a.
-    column-here (s .columns .high) (flat (s .rows)) (s .cells .now) (p .loop .i) (inside t) a (k .column .result .now) (k .column .ensures) (below-high t) (t .flat-in .result) (t .flat-in .ensures (col (getD (s .cells .now) (p .loop .i) 0))) (c .if5 .taken)
-    ∙ ap keyed (sym (p .loop .inv a))
-
-add-i : tie.Need-add-i Inv-loop μ-loop
-add-i c = omega arith
-
-loop-less : tie.Need-loop-less Inv-loop μ-loop
-loop-less c = omega arith
-
-loop-again : tie.Need-loop-again Inv-loop μ-loop
-loop-again c =
-    let t = c .before .before in
-    let p = test t in
-    let s = start p .args in
-    let k = t .before in
-    λ a. absurd (column-some (s .columns .high) (flat (s .rows)) (s .cells .now) (p .loop .i) (inside t) a (k .column .result .now) (k .column .ensures) (c .if6 .taken))
-
-add-i-2 : tie.Need-add-i-2 Inv-loop μ-loop
-add-i-2 c = omega arith
-
-loop-less-2 : tie.Need-loop-less-2 Inv-loop μ-loop
-loop-less-2 c = omega arith
-
-loop-again-2 : tie.Need-loop-again-2 Inv-loop μ-loop
-loop-again-2 c =
-    let t = c .before .before in
-    let p = test t in
-    let s = start p .args in
-    let k = t .before in
-    λ a.
-    p .loop .inv a
-    ∙ column-next (s .columns .high) (flat (s .rows)) (s .cells .now) (p .loop .i) (inside t) a (k .column .result .now) (k .column .ensures) (below-high t) (t .flat-in .result) (t .flat-in .ensures (col (getD (s .cells .now) (p .loop .i) 0))) (c .before .if5 .left)
-
-returns-6 : tie.Need-returns-6 Inv-loop μ-loop
-returns-6 c =
-    let p = c .before in
-    let s = start p .args in
-    λ a. ap keyed (sym (p .loop .inv a ∙ find-past (below (s .columns .high) (flat (s .rows))) (s .cells .now) (p .loop .i) (omega arith)))
+    left-end (s .columns) (flat (s .rows)) (s .cells .now) (p .loop .i) (p .loop .inv) (c .nothing2 .result) (c .nothing2 .ensures) (c .before .loop-test .left)
 
 pub first-flat-spec : {M : Type 1} → statement M
 first-flat-spec =
@@ -155,28 +70,23 @@ first-flat-spec =
     (tie.spec
     Inv-loop
     μ-loop
-    returns
-    returns-2
-    mul-place
-    add-place
-    place-requires
+    (λ c κs. tt)
     loop-holds
-    mul-k
-    shared-slice-read-k
+    (λ c. omega arith)
+    (λ c. omega arith)
+    (λ c κs. tt)
+    returns
+    (λ c κs. search needs)
+    returns-2
+    (λ c. omega arith)
+    (λ c. omega arith)
+    (λ c. omega arith)
+    (λ c. omega arith)
+    (λ c κs. search needs)
+    (λ c κs. search needs)
     returns-3
-    in-rows-requires
-    returns-4
-    mul-column
-    sub-column
-    part-column-start
-    part-column-end
-    column-requires
-    flat-in-requires
-    returns-5
-    add-i
-    loop-less
+    (λ c κs. omega arith)
+    (λ c. omega arith)
     loop-again
-    add-i-2
-    loop-less-2
-    loop-again-2
-    returns-6)
+    (λ c κs. tt)
+    returns-4)

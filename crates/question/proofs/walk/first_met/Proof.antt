@@ -20,20 +20,11 @@ abbrev μ-loop : tie.MeasureT-loop
 loop-holds : tie.Need-loop-holds Inv-loop μ-loop
 loop-holds c = λ b. refl
 
-mul-k : tie.Need-mul-k Inv-loop μ-loop
-mul-k c = omega arith
-
-shared-slice-read-k : tie.Need-shared-slice-read-k Inv-loop μ-loop
-shared-slice-read-k c = omega arith
-
 returns : tie.Need-returns Inv-loop μ-loop
 returns c =
-    let p = c .before .before .before in
+    let p = c .before .before .before .before in
     let s = p .before .before .args in
-    λ x b a o. ap keyed (row-past (s .high) (round b (s .circle)) (s .rows .now) (p .loop .i) (omega arith) x a o (omega arith) (p .loop .inv b))
-
-meets-requires : tie.Need-meets-requires Inv-loop μ-loop
-meets-requires c κs = search needs
+    λ x b a o. c .nothing .ensures ∙ ap keyed (row-past (s .high) (round b (s .circle)) (s .rows .now) (p .loop .i) (omega arith) x a o (omega arith) (p .loop .inv b))
 
 returns-2 : tie.Need-returns-2 Inv-loop μ-loop
 returns-2 c =
@@ -41,12 +32,6 @@ returns-2 c =
     let p = q .before .before .before .before in
     let s = p .before .before .args in
     λ x b a o. ap keyed (row-passes (s .high) (round b (s .circle)) (s .rows .now) (p .loop .i) (omega arith) (omega arith) (sym (q .meets .ensures) ∙ c .if2 .taken) (p .loop .inv b))
-
-add-i : tie.Need-add-i Inv-loop μ-loop
-add-i c = omega arith
-
-loop-less : tie.Need-loop-less Inv-loop μ-loop
-loop-less c = omega arith
 
 loop-again : tie.Need-loop-again Inv-loop μ-loop
 loop-again c =
@@ -57,9 +42,9 @@ loop-again c =
 
 returns-3 : tie.Need-returns-3 Inv-loop μ-loop
 returns-3 c =
-    let p = c .before in
+    let p = c .before .before in
     let s = p .before .before .args in
-    λ x b a o. ap keyed (sym (p .loop .inv b ∙ find-past (rowTaken (s .high) (round b (s .circle))) (s .rows .now) (p .loop .i) (omega arith)))
+    λ x b a o. c .nothing2 .ensures ∙ ap keyed (sym (p .loop .inv b ∙ find-past (rowTaken (s .high) (round b (s .circle))) (s .rows .now) (p .loop .i) (omega arith)))
 
 pub first-met-spec : {M : Type 1} → statement M
 first-met-spec =
@@ -68,12 +53,14 @@ first-met-spec =
     Inv-loop
     μ-loop
     loop-holds
-    mul-k
-    shared-slice-read-k
+    (λ c. omega arith)
+    (λ c. omega arith)
+    (λ c κs. tt)
     returns
-    meets-requires
+    (λ c κs. search needs)
     returns-2
-    add-i
-    loop-less
+    (λ c. omega arith)
+    (λ c. omega arith)
     loop-again
+    (λ c κs. tt)
     returns-3)

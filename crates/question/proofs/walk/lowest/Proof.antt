@@ -9,14 +9,8 @@ use Rattle.question.proofs.walk.lowest.Tie as tie
 
 returns : tie.Need-returns
 returns c =
-    let s = c .before .before .args in
-    λ x b a o. ap keyed (sym (find-past (rowTaken (s .high) (flat b)) (s .rows .now) 0 (omega arith)))
-
-shared-slice-read-k : tie.Need-shared-slice-read-k
-shared-slice-read-k c = search needs
-
-only-requires : tie.Need-only-requires
-only-requires c κs = search needs
+    let s = c .before .before .before .args in
+    λ x b a o. c .nothing .ensures ∙ ap keyed (sym (find-past (rowTaken (s .high) (flat b)) (s .rows .now) 0 (omega arith)))
 
 returns-2 : tie.Need-returns-2
 returns-2 c =
@@ -24,4 +18,4 @@ returns-2 c =
     λ x b a o. c .only .ensures ∙ ap keyed (row-first (s .high) b (s .rows .now) (omega arith) x a o)
 
 pub lowest-spec : {M : Type 1} → statement M
-lowest-spec = tie.close (tie.spec returns shared-slice-read-k only-requires returns-2)
+lowest-spec = tie.close (tie.spec (λ c κs. tt) returns (λ c. search needs) (λ c κs. search needs) returns-2)

@@ -19,9 +19,6 @@ returns c =
     let h : length (a .line .now) < a .from + 16 = omega arith in
     too-short (a .line .now) (a .from) h
 
-sub-if2 : tie.Need-sub-if2 Inv-loop μ-loop
-sub-if2 c = omega arith
-
 returns-2 : tie.Need-returns-2 Inv-loop μ-loop
 returns-2 c =
     let a = c .before .before .before .args in
@@ -33,27 +30,6 @@ fits c = omega arith
 
 loop-holds : tie.Need-loop-holds Inv-loop μ-loop
 loop-holds c = (omega arith, none-read (c .before .before .before .args .line .now) (c .before .before .before .args .from) (fits c))
-
-mul-v : tie.Need-mul-v Inv-loop μ-loop
-mul-v c = omega arith
-
-add-digit : tie.Need-add-digit Inv-loop μ-loop
-add-digit c = omega arith
-
-shared-slice-read-digit : tie.Need-shared-slice-read-digit Inv-loop μ-loop
-shared-slice-read-digit c = omega arith
-
-digit-requires : tie.Need-digit-requires Inv-loop μ-loop
-digit-requires c κs = search needs
-
-add-v : tie.Need-add-v Inv-loop μ-loop
-add-v c = omega arith
-
-add-i : tie.Need-add-i Inv-loop μ-loop
-add-i c = omega arith
-
-loop-less : tie.Need-loop-less Inv-loop μ-loop
-loop-less c = omega arith
 
 loop-again : tie.Need-loop-again Inv-loop μ-loop
 loop-again c =
@@ -74,15 +50,15 @@ pattern-at-spec =
     Inv-loop
     μ-loop
     returns
-    sub-if2
+    (λ c. omega arith)
     returns-2
     loop-holds
-    mul-v
-    add-digit
-    shared-slice-read-digit
-    digit-requires
-    add-v
-    add-i
-    loop-less
+    (λ c. omega arith)
+    (λ c. omega arith)
+    (λ c. omega arith)
+    (λ c κs. search needs)
+    (λ c. omega arith)
+    (λ c. omega arith)
+    (λ c. omega arith)
     loop-again
     returns-3)

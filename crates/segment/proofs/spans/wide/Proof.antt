@@ -7,7 +7,7 @@ use Rattle.segment.proofs.spans.wide.Tie as tie
 returns : tie.Need-returns
 unfolding ofBits
 returns c =
-    λ h. record { above = c .before .before .before .before .before .before .before .before .if1 .taken; near = c .before .before .before .before .before .before .if2 .taken; far = c .before .before .before .before .if3 .taken; size = c .before .before .if4 .taken; most = c .if5 .taken }
+    λ h. record { above = c .before .before .before .before .before .before .before .before .if1 .taken; close = c .before .before .before .before .before .before .if2 .taken; far = c .before .before .before .before .if3 .taken; size = c .before .before .if4 .taken; most = c .if5 .taken }
 
 returns-2 : tie.Need-returns-2
 returns-2 c = λ h. absurd (false≢true h)

@@ -45,35 +45,14 @@ foot c =
     let there = c .before .before .plus .ensures ∙ ap (plus _) along in
     c .dot2 .ensures ∙ ap (λ (v : Pt). dot v v) (c .before .minus3 .ensures ∙ ap (λ (q : Pt). minus q (pt (start (ends d) .args .p))) there)
 
-point-inside-requires : tie.Need-point-inside-requires
-point-inside-requires c κs = search needs
-
 returns : tie.Need-returns
 returns c = let a = c .before .before .args in line-first (pt (a .p)) (a .square) (pt (a .p0)) (pt (a .p1)) (sym (c .before .point-inside .ensures) ∙ c .if1 .taken)
-
-point-inside-requires-2 : tie.Need-point-inside-requires-2
-point-inside-requires-2 c κs = search needs
 
 returns-2 : tie.Need-returns-2
 returns-2 c =
     let e = c .before .before in
     let a = e .before .before .args in
     line-second (pt (a .p)) (a .square) (pt (a .p0)) (pt (a .p1)) (first e) (sym (c .before .point-inside2 .ensures) ∙ c .if2 .taken)
-
-minus-requires : tie.Need-minus-requires
-minus-requires c κs = search needs
-
-norm-requires : tie.Need-norm-requires
-norm-requires c κs = search needs
-
-over-requires : tie.Need-over-requires
-over-requires c κs = search needs
-
-minus-requires-2 : tie.Need-minus-requires-2
-minus-requires-2 c κs = search needs
-
-dot-requires : tie.Need-dot-requires
-dot-requires c κs = search needs
 
 returns-3 : tie.Need-returns-3
 unfolding ofBits
@@ -89,18 +68,6 @@ returns-4 c =
     let a = start e .args in
     line-past (pt (a .p)) (a .square) (pt (a .p0)) (pt (a .p1)) (first (e .before .before)) (second e) (after (c .before)) (rw (length (d .before .before .before), shadow d) at (c .if4 .taken))
 
-times-requires : tie.Need-times-requires
-times-requires c κs = search needs
-
-plus-requires : tie.Need-plus-requires
-plus-requires c κs = search needs
-
-minus-requires-3 : tie.Need-minus-requires-3
-minus-requires-3 c κs = search needs
-
-dot-requires-2 : tie.Need-dot-requires-2
-dot-requires-2 c κs = search needs
-
 returns-5 : tie.Need-returns-5
 returns-5 c =
     let past = c .before .before .before .before in
@@ -114,19 +81,19 @@ pub line-inside-spec : {M : Type 1} → statement M
 line-inside-spec =
     tie.close
     (tie.spec
-    point-inside-requires
+    (λ c κs. search needs)
     returns
-    point-inside-requires-2
+    (λ c κs. search needs)
     returns-2
-    minus-requires
-    norm-requires
-    over-requires
-    minus-requires-2
-    dot-requires
+    (λ c κs. search needs)
+    (λ c κs. search needs)
+    (λ c κs. search needs)
+    (λ c κs. search needs)
+    (λ c κs. search needs)
     returns-3
     returns-4
-    times-requires
-    plus-requires
-    minus-requires-3
-    dot-requires-2
+    (λ c κs. search needs)
+    (λ c κs. search needs)
+    (λ c κs. search needs)
+    (λ c κs. search needs)
     returns-5)

@@ -17,26 +17,11 @@ returns c =
     changed-none (added (length (s .t .now)) (s .k)) (s .t .now) (s .n)
     (λ T. let e : s .n ≡ length (s .t .now) = omega arith in added-full (length (s .t .now)) (s .k) (take (s .n) (s .t .now)) (T .asc) (length-take-le (s .n) (s .t .now) (T .room) ∙ e))
 
-slice-reshare-prefix-place : tie.Need-slice-reshare-prefix-place
-slice-reshare-prefix-place c = search needs
-
 slice-aggregate-place : tie.Need-slice-aggregate-place
 slice-aggregate-place c = let s = c .before .before .before .args in sym (length-take-le (s .n) (s .t .now) (omega arith))
 
-place-requires : tie.Need-place-requires
-place-requires c κs = search needs
-
-slice-reshare-prefix-stands-at : tie.Need-slice-reshare-prefix-stands-at
-slice-reshare-prefix-stands-at c = search needs
-
 slice-aggregate-stands-at : tie.Need-slice-aggregate-stands-at
 slice-aggregate-stands-at c = let s = c .before .before .before .before .before .args in sym (length-take-le (s .n) (s .t .now) (omega arith))
-
-stands-at-requires : tie.Need-stands-at-requires
-stands-at-requires c κs = search needs
-
-same-length : tie.Need-same-length
-same-length c = search needs
 
 returns-2 : tie.Need-returns-2
 returns-2 c =
@@ -47,12 +32,6 @@ returns-2 c =
     changed-none (added (length (s .t .now)) (s .k)) (s .t .now) (s .n)
     (λ T. added-there (length (s .t .now)) (s .k) u (there (s .k) (p .place .result) u (T .asc) (p .place .ensures .1 (T .asc)) seen))
 
-add-used : tie.Need-add-used
-add-used c = search needs
-
-slice-relend-prefix-put-at : tie.Need-slice-relend-prefix-put-at
-slice-relend-prefix-put-at c = search needs
-
 slice-aggregate-put-at : tie.Need-slice-aggregate-put-at
 slice-aggregate-put-at c = let s = c .before .before .before .before .before .before .before .before .args in sym (length-take-le (s .n + 1) (s .t .now) (omega arith))
 
@@ -62,9 +41,6 @@ put-at-requires c κs =
     let s = p .before .before .before .before .args in
     let h : p .place .result ≤ length (take (s .n) (s .t .now)) = p .place .ensures .0 in
     omega (arith, length-take-le (s .n) (s .t .now) (omega arith), length-take-le (s .n + 1) (s .t .now) (omega arith))
-
-same-length-2 : tie.Need-same-length-2
-same-length-2 c = search needs
 
 returns-3 : tie.Need-returns-3
 returns-3 c =
@@ -79,17 +55,17 @@ insert-spec =
     tie.close
     (tie.spec
     returns
-    slice-reshare-prefix-place
+    (λ c. search needs)
     slice-aggregate-place
-    place-requires
-    slice-reshare-prefix-stands-at
+    (λ c κs. search needs)
+    (λ c. search needs)
     slice-aggregate-stands-at
-    stands-at-requires
-    same-length
+    (λ c κs. search needs)
+    (λ c. search needs)
     returns-2
-    add-used
-    slice-relend-prefix-put-at
+    (λ c. search needs)
+    (λ c. search needs)
     slice-aggregate-put-at
     put-at-requires
-    same-length-2
+    (λ c. search needs)
     returns-3)

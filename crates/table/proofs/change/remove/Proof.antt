@@ -18,23 +18,11 @@ returns c =
     let s = c .before .before .args in
     changed-none (cut (s .k)) (s .t .now) (s .n) (λ T. absurd (omega arith))
 
-slice-reshare-prefix-place : tie.Need-slice-reshare-prefix-place
-slice-reshare-prefix-place c = search needs
-
 slice-aggregate-place : tie.Need-slice-aggregate-place
 slice-aggregate-place c = let s = c .before .before .before .args in sym (length-take-le (s .n) (s .t .now) (omega arith))
 
-place-requires : tie.Need-place-requires
-place-requires c κs = search needs
-
-slice-reshare-prefix-stands-at : tie.Need-slice-reshare-prefix-stands-at
-slice-reshare-prefix-stands-at c = search needs
-
 slice-aggregate-stands-at : tie.Need-slice-aggregate-stands-at
 slice-aggregate-stands-at c = let s = c .before .before .before .before .before .args in sym (length-take-le (s .n) (s .t .now) (omega arith))
-
-stands-at-requires : tie.Need-stands-at-requires
-stands-at-requires c κs = search needs
 
 -- k stands at its place
 seen : (c : tie.Then2) → let p = c .before .before .before in let s = p .before .before .before .before .args in stands (s .k) (p .place .result) (take (s .n) (s .t .now)) ≡ true
@@ -55,17 +43,8 @@ sub-shift-down c = omega (arith, within c)
 part-shift-down-start : tie.Need-part-shift-down-start
 part-shift-down-start c = omega (arith, within c)
 
-part-shift-down-end : tie.Need-part-shift-down-end
-part-shift-down-end c = search needs
-
-shift-down-requires : tie.Need-shift-down-requires
-shift-down-requires c κs = search needs
-
 sub-result : tie.Need-sub-result
 sub-result c = omega (arith, within (c .before .before .before .before))
-
-same-length : tie.Need-same-length
-same-length c = search needs
 
 returns-2 : tie.Need-returns-2
 returns-2 c =
@@ -74,9 +53,6 @@ returns-2 c =
     let s = p .before .before .before .before .args in
     removed (s .t .now) (s .n) (s .k) (p .place .result) (p .place .ensures .1) (c .before .before .shift-down .last .0)
     (p .before .before .if1 .left) (seen e) (c .before .before .shift-down .ensures)
-
-same-length-2 : tie.Need-same-length-2
-same-length-2 c = search needs
 
 returns-3 : tie.Need-returns-3
 returns-3 c =
@@ -91,19 +67,19 @@ remove-spec =
     tie.close
     (tie.spec
     returns
-    slice-reshare-prefix-place
+    (λ c. search needs)
     slice-aggregate-place
-    place-requires
-    slice-reshare-prefix-stands-at
+    (λ c κs. search needs)
+    (λ c. search needs)
     slice-aggregate-stands-at
-    stands-at-requires
+    (λ c κs. search needs)
     mul-shift-down
     sub-shift-down
     part-shift-down-start
-    part-shift-down-end
-    shift-down-requires
+    (λ c. search needs)
+    (λ c κs. search needs)
     sub-result
-    same-length
+    (λ c. search needs)
     returns-2
-    same-length-2
+    (λ c. search needs)
     returns-3)

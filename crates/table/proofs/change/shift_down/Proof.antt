@@ -18,32 +18,8 @@ abbrev μ-loop : tie.MeasureT-loop
 returns : tie.Need-returns Inv-loop μ-loop
 returns c = down-empty (c .before .args .t .now) (c .if1 .taken)
 
-sub-last : tie.Need-sub-last Inv-loop μ-loop
-sub-last c = omega arith
-
 loop-holds : tie.Need-loop-holds Inv-loop μ-loop
 loop-holds c = (omega arith, refl, refl)
-
-add-t : tie.Need-add-t Inv-loop μ-loop
-add-t c = omega arith
-
-mul-t : tie.Need-mul-t Inv-loop μ-loop
-mul-t c = omega arith
-
-slice-read-t : tie.Need-slice-read-t Inv-loop μ-loop
-slice-read-t c = omega arith
-
-mul-t-2 : tie.Need-mul-t-2 Inv-loop μ-loop
-mul-t-2 c = omega arith
-
-slice-write-t : tie.Need-slice-write-t Inv-loop μ-loop
-slice-write-t c = omega arith
-
-add-i : tie.Need-add-i Inv-loop μ-loop
-add-i c = omega arith
-
-loop-less : tie.Need-loop-less Inv-loop μ-loop
-loop-less c = omega arith
 
 loop-again : tie.Need-loop-again Inv-loop μ-loop
 loop-again c =
@@ -51,12 +27,6 @@ loop-again c =
     let v = p .loop .inv in
     let d = p .before .before .args .t .now in
     (omega arith, simp length-set (v .1), down-more d (p .loop .t) (p .loop .i) (omega arith) (v .2))
-
-mul-t-3 : tie.Need-mul-t-3 Inv-loop μ-loop
-mul-t-3 c = omega arith
-
-slice-write-t-2 : tie.Need-slice-write-t-2 Inv-loop μ-loop
-slice-write-t-2 c = omega arith
 
 same-length : tie.Need-same-length Inv-loop μ-loop
 same-length c = simp length-set (c .before .loop .inv .1)
@@ -75,17 +45,17 @@ shift-down-spec =
     Inv-loop
     μ-loop
     returns
-    sub-last
+    (λ c. omega arith)
     loop-holds
-    add-t
-    mul-t
-    slice-read-t
-    mul-t-2
-    slice-write-t
-    add-i
-    loop-less
+    (λ c. omega arith)
+    (λ c. omega arith)
+    (λ c. omega arith)
+    (λ c. omega arith)
+    (λ c. omega arith)
+    (λ c. omega arith)
+    (λ c. omega arith)
     loop-again
-    mul-t-3
-    slice-write-t-2
+    (λ c. omega arith)
+    (λ c. omega arith)
     same-length
     returns-2)

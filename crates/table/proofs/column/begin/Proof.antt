@@ -10,11 +10,11 @@ use Rattle.table.proofs.RankLaws.{rank-all}
 use Rattle.table.proofs.column.begin.Statement.{statement}
 use Rattle.table.proofs.column.begin.Tie as tie
 
-mul-place-near : tie.Need-mul-place-near
-mul-place-near c = search needs
+mul-place-from : tie.Need-mul-place-from
+mul-place-from c = search needs
 
-place-near-requires : tie.Need-place-near-requires
-place-near-requires c κs = search needs
+place-from-requires : tie.Need-place-from-requires
+place-from-requires c κs = search needs
 
 returns : tie.Need-returns
 returns c = search needs
@@ -26,4 +26,4 @@ returns-2 c =
     (omega arith, λ a. sym (rank-all (s .x * W) (s .t .now) (all-from (λ k. k < s .x * W) (s .t .now) b)))
 
 pub begin-spec : {M : Type 1} → statement M
-begin-spec = tie.close (tie.spec mul-place-near place-near-requires returns returns-2)
+begin-spec = tie.close (tie.spec mul-place-from place-from-requires returns returns-2)

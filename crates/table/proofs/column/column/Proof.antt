@@ -12,49 +12,10 @@ use Rattle.table.proofs.ColumnLaws.{column-is, column-none}
 use Rattle.table.proofs.column.column.Statement.{statement}
 use Rattle.table.proofs.column.column.Tie as tie
 
-slice-aggregate-result : tie.Need-slice-aggregate-result
-slice-aggregate-result c = search needs
-
 returns : tie.Need-returns
 returns c =
     let s = c .before .before in
     λ a. column-none (s .before .args .x) (s .before .args .t .now) (c .before .if1 .taken) (λ i. s .shared-slice-known .given i .fits)
-
-begin-requires : tie.Need-begin-requires
-begin-requires c κs = search needs
-
-mul-begin : tie.Need-mul-begin
-mul-begin c = search needs
-
-sub-begin : tie.Need-sub-begin
-sub-begin c = search needs
-
-part-begin-start : tie.Need-part-begin-start
-part-begin-start c = search needs
-
-part-begin-end : tie.Need-part-begin-end
-part-begin-end c = search needs
-
-add-begin : tie.Need-add-begin
-add-begin c = search needs
-
-begin-requires-2 : tie.Need-begin-requires-2
-begin-requires-2 c κs = search needs
-
-add-e : tie.Need-add-e
-add-e c = search needs
-
-mul-result : tie.Need-mul-result
-mul-result c = search needs
-
-sub-result : tie.Need-sub-result
-sub-result c = search needs
-
-part-result-start : tie.Need-part-result-start
-part-result-start c = search needs
-
-part-result-end : tie.Need-part-result-end
-part-result-end c = search needs
 
 returns-2 : tie.Need-returns-2
 returns-2 c =
@@ -74,18 +35,18 @@ pub column-spec : {M : Type 1} → statement M
 column-spec =
     tie.close
     (tie.spec
-    slice-aggregate-result
+    (λ c. search needs)
     returns
-    begin-requires
-    mul-begin
-    sub-begin
-    part-begin-start
-    part-begin-end
-    add-begin
-    begin-requires-2
-    add-e
-    mul-result
-    sub-result
-    part-result-start
-    part-result-end
+    (λ c κs. search needs)
+    (λ c. search needs)
+    (λ c. search needs)
+    (λ c. search needs)
+    (λ c. search needs)
+    (λ c. search needs)
+    (λ c κs. search needs)
+    (λ c. search needs)
+    (λ c. search needs)
+    (λ c. search needs)
+    (λ c. search needs)
+    (λ c. search needs)
     returns-2)

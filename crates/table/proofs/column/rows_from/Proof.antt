@@ -14,37 +14,16 @@ use Rattle.table.proofs.ColumnLaws.{rows-are, rows-empty, rows-none}
 use Rattle.table.proofs.column.rows_from.Statement.{statement}
 use Rattle.table.proofs.column.rows_from.Tie as tie
 
-slice-aggregate-result : tie.Need-slice-aggregate-result
-slice-aggregate-result c = search needs
-
 returns : tie.Need-returns
 returns c =
     let s = c .before .before .before .args in
     λ x a i. ⊎-elim (λ w. rows-empty (s .y) (s .col .now) (w .taken)) (λ w. rows-none (s .y) (s .col .now) (leb-true W (s .y) (w .1 .taken))) (c .before .if1 .came)
-
-shared-slice-read-place : tie.Need-shared-slice-read-place
-shared-slice-read-place c = search needs
 
 mul-place : tie.Need-mul-place
 mul-place c = omega (arith, c .shared-slice-known2 .given 0)
 
 add-place : tie.Need-add-place
 add-place c = omega (arith, c .shared-slice-known2 .given 0, leb-false W (c .before .before .before .before .args .y) (c .before .if2 .left))
-
-place-requires : tie.Need-place-requires
-place-requires c κs = search needs
-
-mul-result : tie.Need-mul-result
-mul-result c = search needs
-
-sub-result : tie.Need-sub-result
-sub-result c = search needs
-
-part-result-start : tie.Need-part-result-start
-part-result-start c = search needs
-
-part-result-end : tie.Need-part-result-end
-part-result-end c = search needs
 
 returns-2 : tie.Need-returns-2
 returns-2 c =
@@ -60,14 +39,14 @@ pub rows-from-spec : {M : Type 1} → statement M
 rows-from-spec =
     tie.close
     (tie.spec
-    slice-aggregate-result
+    (λ c. search needs)
     returns
-    shared-slice-read-place
+    (λ c. search needs)
     mul-place
     add-place
-    place-requires
-    mul-result
-    sub-result
-    part-result-start
-    part-result-end
+    (λ c κs. search needs)
+    (λ c. search needs)
+    (λ c. search needs)
+    (λ c. search needs)
+    (λ c. search needs)
     returns-2)

@@ -7,7 +7,7 @@ returns : tie.Need-returns
 returns c = rw (c .if1 .taken) refl
 
 returns-2 : tie.Need-returns-2
-returns-2 c = rw (c .if1 .left) refl
+returns-2 c = rw (c .before .if1 .left) (c .nothing .ensures)
 
 pub only-spec : {M : Type 1} → statement M
-only-spec = tie.close (tie.spec returns returns-2)
+only-spec = tie.close (tie.spec returns (λ c κs. tt) returns-2)

@@ -30,12 +30,12 @@ returns c =
     let wide = t .before .wide .ensures (t .if3 .taken) in
     record {
       line = m .ensures;
-      reach = refl;
-      outside = λ k h o. nothing-near (m .result) (a .reach) _ line wide (c .before .span-of .result) (c .span-of2 .result) (c .before .span-of .ensures) (c .span-of2 .ensures) k h o;
+      proximity = refl;
+      outside = λ k h o. nothing-near (m .result) (a .proximity) _ line wide (c .before .span-of .result) (c .span-of2 .result) (c .before .span-of .ensures) (c .span-of2 .ensures) k h o;
     }
 
 returns-2 : tie.Need-returns-2
-returns-2 c = record { line = c .before .before .measured .ensures; reach = refl; outside = λ k h o. absurd (true≢false (sym (all-inside k h) ∙ o)) }
+returns-2 c = record { line = c .before .before .measured .ensures; proximity = refl; outside = λ k h o. absurd (true≢false (sym (all-inside k h) ∙ o)) }
 
 pub new-spec : {M : Type 1} → statement M
 new-spec = tie.close (tie.spec measured-requires small-line-requires wide-requires span-of-requires span-of-requires-2 returns returns-2)

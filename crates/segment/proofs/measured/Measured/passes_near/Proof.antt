@@ -16,7 +16,7 @@ abbrev μ-loop : tie.MeasureT-loop
 μ-loop self reach cell size i₀ i = 4 - i
 
 loop-holds : tie.Need-loop-holds Inv-loop μ-loop
-loop-holds c = let a = c .args in (omega arith, open-all (a .self) (a .reach) (a .cell))
+loop-holds c = let a = c .args in (omega arith, open-all (a .self) (a .proximity) (a .cell))
 
 corner-requires : tie.Need-corner-requires Inv-loop μ-loop
 corner-requires c κs = tt
@@ -28,7 +28,7 @@ square-to-requires c κs = tt
 square : (c : tie.After-square-to Inv-loop μ-loop)
     → let i = c .before .before .before .loop .i in
     let a = c .before .before .before .before .args in
-    c .square-to .result ≡ squared (a .self) (lowCorner (a .reach .size) (a .cell) (pos (i / 2 % 2)) (pos (i % 2)))
+    c .square-to .result ≡ squared (a .self) (lowCorner (a .proximity .size) (a .cell) (pos (i / 2 % 2)) (pos (i % 2)))
 square c = c .square-to .ensures ∙ ap (λ (p : Pt). squared (c .before .before .before .before .args .self) p) (c .before .corner .ensures)
 
 returns : tie.Need-returns Inv-loop μ-loop
@@ -36,14 +36,14 @@ returns c =
     let s = c .before .before in
     let l = s .before .before .before in
     let a = l .before .args in
-    corner-near (a .self) (a .reach) (a .cell) (l .loop .i) (omega arith) (l .loop .inv .1) (s .square-to .result) (square s) (c .if1 .taken)
+    corner-near (a .self) (a .proximity) (a .cell) (l .loop .i) (omega arith) (l .loop .inv .1) (s .square-to .result) (square s) (c .if1 .taken)
 
 returns-2 : tie.Need-returns-2 Inv-loop μ-loop
 returns-2 c =
     let s = c .before .before .before .before in
     let l = s .before .before .before in
     let a = l .before .args in
-    corner-far (a .self) (a .reach) (a .cell) (l .loop .i) (omega arith) (l .loop .inv .1) (s .square-to .result) (square s) (c .before .before .if1 .left) (c .if2 .taken)
+    corner-far (a .self) (a .proximity) (a .cell) (l .loop .i) (omega arith) (l .loop .inv .1) (s .square-to .result) (square s) (c .before .before .if1 .left) (c .if2 .taken)
 
 add-i : tie.Need-add-i Inv-loop μ-loop
 add-i c = omega arith
@@ -56,7 +56,7 @@ loop-again c =
     let s = c .before .before .before .before in
     let l = s .before .before .before in
     let a = l .before .args in
-    (omega arith, corner-open (a .self) (a .reach) (a .cell) (l .loop .i) (omega arith) (l .loop .inv .1) (s .square-to .result) (square s) (c .before .before .if1 .left) (c .if2 .left))
+    (omega arith, corner-open (a .self) (a .proximity) (a .cell) (l .loop .i) (omega arith) (l .loop .inv .1) (s .square-to .result) (square s) (c .before .before .if1 .left) (c .if2 .left))
 
 corner-requires-2 : tie.Need-corner-requires-2 Inv-loop μ-loop
 corner-requires-2 c κs = tt
@@ -72,7 +72,7 @@ returns-3 c =
     let l = c .before .before .before .before .before in
     let a = l .before .args in
     c .meets-cell .ensures
-    ∙ rw (c .before .before .corner2 .ensures, c .before .corner3 .ensures) (open-none (a .self) (a .reach) (a .cell) (l .loop .i) (omega arith) (omega arith) (l .loop .inv .1))
+    ∙ rw (c .before .before .corner2 .ensures, c .before .corner3 .ensures) (open-none (a .self) (a .proximity) (a .cell) (l .loop .i) (omega arith) (omega arith) (l .loop .inv .1))
 
 pub passes-near-spec : {M : Type 1} → statement M
 passes-near-spec =

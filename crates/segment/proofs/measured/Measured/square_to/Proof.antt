@@ -32,30 +32,6 @@ after : (c : tie.Else2) → lt (dot (from-first (c .before .before)) (vec (start
 unfolding ofBits
 after c = ap (λ (d : Float). lt d nought) (sym (shadow (c .before .before))) ∙ c .if2 .left
 
-minus-requires : tie.Need-minus-requires
-minus-requires c κs = search needs
-
-minus-requires-2 : tie.Need-minus-requires-2
-minus-requires-2 c κs = search needs
-
-dot-requires : tie.Need-dot-requires
-dot-requires c κs = search needs
-
-times-requires : tie.Need-times-requires
-times-requires c κs = search needs
-
-minus-requires-3 : tie.Need-minus-requires-3
-minus-requires-3 c κs = search needs
-
-dot-requires-2 : tie.Need-dot-requires-2
-dot-requires-2 c κs = search needs
-
-dot-requires-3 : tie.Need-dot-requires-3
-dot-requires-3 c κs = search needs
-
-dot-requires-4 : tie.Need-dot-requires-4
-dot-requires-4 c κs = search needs
-
 returns : tie.Need-returns
 unfolding tiny
 returns c =
@@ -92,14 +68,14 @@ pub square-to-spec : {M : Type 1} → statement M
 square-to-spec =
     tie.close
     (tie.spec
-    minus-requires
-    minus-requires-2
-    dot-requires
-    times-requires
-    minus-requires-3
-    dot-requires-2
-    dot-requires-3
-    dot-requires-4
+    (λ c κs. search needs)
+    (λ c κs. search needs)
+    (λ c κs. search needs)
+    (λ c κs. search needs)
+    (λ c κs. search needs)
+    (λ c κs. search needs)
+    (λ c κs. search needs)
+    (λ c κs. search needs)
     returns
     returns-2
     returns-3

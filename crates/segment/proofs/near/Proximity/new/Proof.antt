@@ -13,7 +13,7 @@ root-threshold-requires-2 c κs = search needs
 
 returns : tie.Need-returns
 unfolding bound
-returns c = record { size = refl; limit = refl; near = c .before .root-threshold .ensures; far = c .root-threshold2 .ensures }
+returns c = record { size = refl; limit = refl; close = c .before .root-threshold .ensures; far = c .root-threshold2 .ensures }
 
 pub new-spec : {M : Type 1} → statement M
 new-spec = tie.close (tie.spec root-threshold-requires root-threshold-requires-2 returns)

@@ -5,7 +5,7 @@ use mathlib.Core.Bool.{false}
 use mathlib.Core.Path.{_≡_, ap, _∙_}
 use Rattle.model.specs.Plane.{Pt, minus, dot, centre}
 use Rattle.plane.specs.Values.{pt, vec}
-use Rattle.shape.proofs.CircleLaws.{meets-near, meets-far, meets-sides}
+use Rattle.shape.proofs.CircleLaws.{meets-close, meets-far, meets-sides}
 use Rattle.shape.proofs.circle.Circle.meets.Statement.{statement}
 use Rattle.shape.proofs.circle.Circle.meets.Tie as tie
 
@@ -19,7 +19,7 @@ gap c = vec (c .before .minus .result)
 away : (c : tie.After-dot) → let a = start c .args in gap c ≡ minus (pt (a .self .p)) (centre (a .self .size) (a .cell))
 away c = c .before .minus .ensures ∙ ap (minus _) (c .before .before .centre .ensures)
 
-outer : (c : tie.Else1) → let d = c .before .before in lt (dot (gap d) (gap d)) (start d .args .self .near) ≡ false
+outer : (c : tie.Else1) → let d = c .before .before in lt (dot (gap d) (gap d)) (start d .args .self .close) ≡ false
 outer c = rw (c .before .before .dot .ensures) at (c .if1 .left)
 
 centre-requires : tie.Need-centre-requires
@@ -35,7 +35,7 @@ returns : tie.Need-returns
 returns c =
     let d = c .before .before in
     let a = start d .args in
-    meets-near (a .self) (a .cell) (gap d) (away d) (rw (d .dot .ensures) at (c .if1 .taken))
+    meets-close (a .self) (a .cell) (gap d) (away d) (rw (d .dot .ensures) at (c .if1 .taken))
 
 returns-2 : tie.Need-returns-2
 returns-2 c =

@@ -1,4 +1,4 @@
--- The place of a key that stands near the front of an ascending list. Assumes nothing.
+-- The place of a key that is among the first of an ascending list. Assumes nothing.
 use Prim.Native.Nat.{ℕ, zero, suc, _+_, _-_, _*_, _≤_, _<_, zero-le}
 use native.Mathlib.Nat.{le-of-suc-le-suc, not-suc-le-zero}
 use native.Mathlib.Omega.{arith}
@@ -42,33 +42,33 @@ rank-part k at m l low high =
 
 -- ---- the search that doubles: no key before `at` is k's place, and n is looked at next
 pub record Doubled (k : ℕ) (l : List ℕ) (at n : ℕ) : Type 0 where
-  pub behind : at ≤ n
+  pub order : at ≤ n
   pub inside : at ≤ length l
   pub small : n ≤ 2 * length l
-  pub near : AscL 0 l → at ≤ rank k l
+  pub low : AscL 0 l → at ≤ rank k l
 
 pub doubled-none : (k : ℕ) (l : List ℕ) → Doubled k l 0 0
-doubled-none k l = record { behind = zero-le; inside = zero-le; small = zero-le; near = λ a. zero-le }
+doubled-none k l = record { order = zero-le; inside = zero-le; small = zero-le; low = λ a. zero-le }
 
 module _ (k : ℕ) (l : List ℕ) (at n : ℕ) (d : Doubled k l at n) where
   pub doubled-more : n < length l → getD l n 0 < k → Doubled k l (n + 1) (2 * n + 1)
   doubled-more h b = record {
-    behind = omega arith;
+    order = omega arith;
     inside = omega arith;
     small = omega arith;
-    near = λ a. omega (arith, rank-above 0 k l n a h b);
+    low = λ a. omega (arith, rank-above 0 k l n a h b);
   }
 
   -- the stretch up to n, and the whole rest
   pub doubled-ends : n < length l → k ≤ getD l n 0 → AscL 0 l → at + rank k (take (n - at) (drop at l)) ≡ rank k l
   doubled-ends h b a =
-      let low = d .near a in
+      let low = d .low a in
       let r = rank-below k l n h b in
-      let high : rank k l ≤ at + (n - at) = omega (arith, d .behind) in
+      let high : rank k l ≤ at + (n - at) = omega (arith, d .order) in
       rank-part k at (n - at) l low high
 
   pub doubled-out : AscL 0 l → at + rank k (take (length l - at) (drop at l)) ≡ rank k l
   doubled-out a =
       let r = rank-le k l in
       let high : rank k l ≤ at + (length l - at) = omega (arith, d .inside) in
-      rank-part k at (length l - at) l (d .near a) high
+      rank-part k at (length l - at) l (d .low a) high

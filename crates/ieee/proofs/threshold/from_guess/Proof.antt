@@ -1,10 +1,10 @@
--- `root::threshold::near` meets its contract: two roots, at patterns side by side. Assumes nothing.
+-- `ieee::threshold::from_guess` meets its contract: two roots, at patterns side by side. Assumes nothing.
 use mathlib.Core.Path.{_∙_, sym}
 use native.Mathlib.Omega.{arith}
 use borrow.Author.Needs.{needs}
 use Rattle.ieee.proofs.Thresholds.{none-first, this-first, next-first}
-use Rattle.ieee.proofs.threshold.near.Statement.{statement}
-use Rattle.ieee.proofs.threshold.near.Tie as tie
+use Rattle.ieee.proofs.threshold.from_guess.Statement.{statement}
+use Rattle.ieee.proofs.threshold.from_guess.Tie as tie
 
 returns : tie.Need-returns
 returns c = none-first (c .before .args .b)
@@ -53,8 +53,8 @@ returns-6 c =
 returns-7 : tie.Need-returns-7
 returns-7 c = none-first (c .before .before .before .before .before .before .args .b)
 
-pub near-spec : {M : Type 1} → statement M
-near-spec =
+pub from-guess-spec : {M : Type 1} → statement M
+from-guess-spec =
     tie.close
     (tie.spec
     returns

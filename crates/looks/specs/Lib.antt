@@ -1,0 +1,2 @@
+-- What the contracts of crate `looks` cite.
+pub mod Tested
