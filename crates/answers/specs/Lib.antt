@@ -5,5 +5,4 @@ pub mod CellLists
 pub mod Columns
 pub mod Found
 pub mod PairLists
-pub mod Temp
 pub mod Walks

@@ -21,7 +21,7 @@ use Rattle.mapfile.specs.declared.state.Reader.{Reader}
 use Rattle.mapfile.specs.declared.state.Reading.{Reading}
 use Rattle.report.proofs.CallLaws.{not-short}
 use Rattle.window.specs.Refilled.{Refilled, Within, bytesOf}
-use Rattle.window.specs.Wanted.{wanted}
+use Rattle.model.specs.Limits.{needWindow}
 use Rattle.window.specs.declared.input.Window.{Window}
 use Rattle.intake.specs.Taken.{Came, EndsWith, Taken, lent}
 use Rattle.intake.specs.declared.input.End.{End}
@@ -40,7 +40,7 @@ behind from end used b =
     part-is (from + used) end b ∙ sym (drop-drop used from (take end b)) ∙ ap (drop used) (sym (part-is from end b))
 
 -- what is lent is long enough
-pub tables-long : (b : List ℕ) (t : Tables) → short (lent b t) ≡ false → (wanted ≤ length b) × (short (needs t) ≡ false)
+pub tables-long : (b : List ℕ) (t : Tables) → short (lent b t) ≡ false → (needWindow ≤ length b) × (short (needs t) ≡ false)
 tables-long b t e = let h = long-enough (lent b t) e in (h .0, not-short (needs t) (h .1))
 
 -- ---- the loop: `bytes` were read, of which w were not used; for all that the input may have after them (nothing, where it ended), a run from here is one from the start. `left` so many bytes may still be used
@@ -79,12 +79,12 @@ module _ {n : ℕ} {t₀ : Tables} {r : Reader} {t : Tables} {left : ℕ} where
       go false e = more e
 
   module _ {w : List ℕ} {ended : Bool} (g : Going n t₀ r t w ended left) where
-    wide : (ended ≡ true) ⊎ (wanted ≤ length w) → (rest : List ℕ) → (ended ≡ true → rest ≡ []) → Wide w rest
+    wide : (ended ≡ true) ⊎ (needWindow ≤ length w) → (rest : List ℕ) → (ended ≡ true → rest ≡ []) → Wide w rest
     wide v rest k = ⊎-elim (λ e. inr (k e)) (λ l. inl l) v
 
     module _ {t′ : Tables} {a : Reading} (x : FieldRead r w t t′ a) where
       -- a field is taken
-      pub go-more : (r′ : Reader) (used : ℕ) → a ≡ Reading.More r′ used → (ended ≡ true) ⊎ (wanted ≤ length w) → used ≤ left → Going n t₀ r′ t′ (drop used w) ended (left - used)
+      pub go-more : (r′ : Reader) (used : ℕ) → a ≡ Reading.More r′ used → (ended ≡ true) ⊎ (needWindow ≤ length w) → used ≤ left → Going n t₀ r′ t′ (drop used w) ended (left - used)
       go-more r′ used e v h =
           record {
             bytes = g .bytes;

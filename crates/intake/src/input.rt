@@ -10,7 +10,7 @@ use window::input::Window;
 use window::input::refill;
 ghost use mathlib.Core.Path.{_≡_};
 ghost use mathlib.Core.Bool.{false};
-ghost use Rattle.answers.specs.Temp.{tablesOf};
+ghost use Rattle.held.specs.Holds.{tablesOf};
 ghost use Rattle.model.specs.Refusal.{short};
 ghost use Rattle.intake.specs.Taken.{EndsWith, Taken, lent};
 

@@ -4,7 +4,7 @@ use mathlib.Core.Path.{_≡_}
 use mathlib.Core.Logic.{_⊎_}
 use mathlib.Core.List.{List, [], _++_}
 use lib.ListN.{length}
-use Rattle.answers.specs.Temp.{needWindow}
+use Rattle.model.specs.Limits.{needWindow}
 use Rattle.model.specs.Map.{Map}
 use Rattle.model.specs.MapFile.{Reader, Reading, done, more, oneField, refused}
 

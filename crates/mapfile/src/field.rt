@@ -14,7 +14,7 @@ use sizes::NUMBERS;
 use visibility::change::change_cells;
 use visibility::open::open;
 ghost use mathlib.Core.Path.{_≡_};
-ghost use Rattle.answers.specs.Temp.{tablesOf};
+ghost use Rattle.held.specs.Holds.{tablesOf};
 ghost use Rattle.mapfile.specs.Reads.{FieldRead, TookBatch, TookRadius, stoppedAt, sizeTaken};
 
 // The file stops here: after FF that is its end.

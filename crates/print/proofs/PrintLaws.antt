@@ -9,7 +9,8 @@ use lib.Dec.{leb, ltb}
 use lib.ListN.{length}
 use borrow.Author.Tests.{lt-ltb, le-ltb, lt-leb, le-leb, leb-true}
 use Rattle.ieee.proofs.Tools.{lt-or-ge, not-both}
-use Rattle.print.specs.Printed.{Put, Printed, lineRoom, linesFit}
+use Rattle.print.specs.Printed.{Put, Printed, linesFit}
+use Rattle.model.specs.Limits.{lineRoom}
 
 module _ {roomy : Bool} {room at r : ℕ} {s t t′ : List ℕ} where
   pub printed-done : roomy ≡ true → Put s at r t t′ → length s ≤ room → Printed roomy room s at r t t′

@@ -8,7 +8,8 @@ use mathlib.Core.Bool.{false, not}
 use mathlib.Core.List.{List, [], _∷_, _++_, append-assoc, append-nil}
 use lib.ListN.{getD, length, take}
 use lib.Seq.{take-all}
-use Rattle.print.specs.Printed.{PrintedRows, Put, lineRoom, linesFit, rows}
+use Rattle.print.specs.Printed.{PrintedRows, Put, linesFit, rows}
+use Rattle.model.specs.Limits.{lineRoom}
 use Rattle.print.proofs.PrintLaws.{fit, fits, printed-done}
 use Rattle.print.proofs.PutLaws.{put-none, put-then, put-long}
 

@@ -1,4 +1,4 @@
--- Text in a lent buffer, and lines of columns of numbers (the model's Listing has the lines). Definitions only.
+-- Between functions: text in a lent buffer, and lines of columns of numbers (the model's Listing has the lines). Definitions only.
 use Prim.Native.Nat.{ℕ, zero, suc, _+_, _*_, _≤_}
 use mathlib.Core.Path.{_≡_}
 use mathlib.Core.Bool.{Bool, true, false, _&&_}
@@ -6,19 +6,13 @@ use mathlib.Core.List.{List, [], _∷_, _++_}
 use mathlib.Core.Option.{Option, none, some}
 use lib.Dec.{leb}
 use lib.ListN.{drop, length, take}
+use Rattle.model.specs.Limits.{lineRoom}
 use Rattle.model.specs.Listing.{pairLine, pointLine}
 
 -- s is in t′ from the place `at` up to r, and all else is as it was in t
 pub record Put (s : List ℕ) (at r : ℕ) (t t′ : List ℕ) : Type 0 where
   pub end : r ≡ at + length s
   pub is : t′ ≡ take at t ++ s ++ drop r t
-
--- the room that is asked for: of the first line, and of every other line
-abbrev pub firstRoom : ℕ
-firstRoom = 256
-
-abbrev pub lineRoom : ℕ
-lineRoom = 80
 
 -- with room, s is written and needs no more than that; without, nothing is
 pub record Printed (roomy : Bool) (room : ℕ) (s : List ℕ) (at r : ℕ) (t t′ : List ℕ) : Type 0 where

@@ -5,7 +5,8 @@ use crate::room::FIRST;
 ghost use lib.Dec.{leb};
 ghost use lib.ListN.{length};
 ghost use Rattle.model.specs.Listing.{countsLine};
-ghost use Rattle.print.specs.Printed.{Printed, firstRoom};
+ghost use Rattle.print.specs.Printed.{Printed};
+ghost use Rattle.model.specs.Limits.{firstRoom};
 
 pub struct Counts {
     pub cells: u64,

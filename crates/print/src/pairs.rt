@@ -6,7 +6,8 @@ use crate::room::lacks_room;
 ghost use Prim.Native.Nat.{_+_, _≤_};
 ghost use lib.ListN.{length};
 ghost use Rattle.model.specs.Listing.{pairLine};
-ghost use Rattle.print.specs.Printed.{PrintedRows, Put, blockOf, lineRoom, pairRow};
+ghost use Rattle.print.specs.Printed.{PrintedRows, Put, blockOf, pairRow};
+ghost use Rattle.model.specs.Limits.{lineRoom};
 
 fn put_pair(out: &mut [u8], at: usize, lesser: u64, greater: u64, block: u64) -> usize
     requires { ⌜ at + lineRoom ≤ length (now out) ⌝ }

@@ -6,7 +6,8 @@ use crate::room::lacks_room;
 ghost use Prim.Native.Nat.{_+_, _≤_};
 ghost use lib.ListN.{length};
 ghost use Rattle.model.specs.Listing.{pointLine};
-ghost use Rattle.print.specs.Printed.{PrintedRows, Put, blockOf, lineRoom, pointRow};
+ghost use Rattle.print.specs.Printed.{PrintedRows, Put, blockOf, pointRow};
+ghost use Rattle.model.specs.Limits.{lineRoom};
 
 fn put_point(out: &mut [u8], at: usize, key: u64, status: u8, block: u64) -> usize
     requires { ⌜ at + lineRoom ≤ length (now out) ⌝ }

@@ -5,7 +5,8 @@ use crate::room::LINE;
 ghost use lib.Dec.{leb};
 ghost use lib.ListN.{length};
 ghost use Rattle.model.specs.Listing.{refusedLine};
-ghost use Rattle.print.specs.Printed.{Printed, lineRoom};
+ghost use Rattle.print.specs.Printed.{Printed};
+ghost use Rattle.model.specs.Limits.{lineRoom};
 
 // Returns how many bytes the line has. Nothing is written where there is not room for 80.
 pub fn put_refusal(out: &mut [u8], number: u8, field: u64) -> usize

@@ -9,7 +9,8 @@ use Rattle.answers.specs.declared.judge.Count.{Count}
 use Rattle.ieee.proofs.Tools.{lt-or-ge}
 use Rattle.held.specs.declared.map.Map.{Map}
 use Rattle.report.specs.Filed.{Listed}
-use Rattle.report.specs.Reported.{MapHeld, MapListed, mapDue, needListing}
+use Rattle.report.specs.Reported.{MapHeld, MapListed, mapDue}
+use Rattle.model.specs.Limits.{needListing}
 
 -- ---- `list_map`, of a map that is held, or that is refused whatever the tables hold
 module _ (m : Map) (cells points statuses blockers pairs out : List ℕ) where

@@ -13,12 +13,12 @@ use Rattle.model.specs.Listing.{listed, listing, refusedLine}
 use Rattle.model.specs.Map as model
 use Rattle.model.specs.MapFile.{Reading, done, readFile, refused}
 use Rattle.model.specs.Refusal.{short}
-use Rattle.print.specs.Printed.{Printed, lineRoom}
+use Rattle.print.specs.Printed.{Printed}
+use Rattle.model.specs.Limits.{lineRoom, needListing}
 use Rattle.held.proofs.RoomLaws.{Enough}
 use Rattle.held.specs.Holds.{Holds, Tables}
 use Rattle.held.specs.declared.map.Map.{Map}
 use Rattle.report.specs.Filed.{EndedAs, Listed}
-use Rattle.report.specs.Reported.{needListing}
 use Rattle.report.specs.declared.file.Ended.{Ended}
 use Rattle.report.proofs.CallLaws.{call-accepted, held-accepted}
 use Rattle.report.proofs.MapLaws.{put-front}

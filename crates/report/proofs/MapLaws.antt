@@ -18,21 +18,21 @@ use Rattle.model.specs.Answers.{allPairs, corners, openPairs}
 use Rattle.model.specs.Answers as asked
 use Rattle.model.specs.Blocks.{blockCount}
 use Rattle.model.specs.Layer.{Pair, Points}
-use Rattle.model.specs.Limits.{maxCells, maxPoints, needPairs}
+use Rattle.model.specs.Limits.{firstRoom, lineRoom, maxCells, maxPoints, needListing, needPairs}
 use Rattle.model.specs.Listing.{countsLine, listed, summary}
 use Rattle.model.specs.Map as model
 use Rattle.model.specs.MapFile.{done}
 use Rattle.model.specs.Maps.{AscL, keys}
 use Rattle.print.proofs.PrintLaws.{fits}
 use Rattle.print.proofs.PutLaws.{put-long, put-then}
-use Rattle.print.specs.Printed.{Printed, PrintedRows, Put, firstRoom, lineRoom, linesFit, pairRow, pointRow}
+use Rattle.print.specs.Printed.{Printed, PrintedRows, Put, linesFit, pairRow, pointRow}
 use Rattle.print.specs.declared.counts.Counts.{Counts}
 use Rattle.held.specs.Codes.{codes}
 use Rattle.table.proofs.ListedLaws.{keys-length}
 use Rattle.held.proofs.NamedLaws.{blocks-named}
 use Rattle.held.specs.Holds.{Holds, Tables}
 use Rattle.held.specs.declared.map.Map.{Map}
-use Rattle.report.specs.Reported.{countsOf, needListing}
+use Rattle.report.specs.Reported.{countsOf}
 use Rattle.report.proofs.ColumnLaws.{lessers-length, pair-rows, pairs-told, point-rows}
 
 -- ---- counts

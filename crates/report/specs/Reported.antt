@@ -1,5 +1,5 @@
 -- Between functions: the listing of a map in lent tables, and the counts of its first line (the model's `summary` and `listed`). Definitions only.
-use Prim.Native.Nat.{ℕ, _+_, _*_}
+use Prim.Native.Nat.{ℕ}
 use mathlib.Core.Path.{_≡_}
 use mathlib.Core.Bool.{false}
 use mathlib.Core.List.{List, [], _∷_}
@@ -11,17 +11,12 @@ use Rattle.held.specs.Holds.{Tables}
 use Rattle.held.specs.declared.map.Map.{Map}
 use Rattle.model.specs.Answers.{corners, openPairs}
 use Rattle.model.specs.Blocks.{blockCount}
-use Rattle.model.specs.Limits.{maxPoints, needPairs}
+use Rattle.model.specs.Limits.{needListing}
 use Rattle.model.specs.Listing.{listed}
 use Rattle.model.specs.Map as model
 use Rattle.model.specs.MapFile.{done}
 use Rattle.model.specs.Refusal.{short}
-use Rattle.print.specs.Printed.{firstRoom, lineRoom}
 use Rattle.print.specs.declared.counts.Counts.{Counts}
-
--- the buffer's fixed need: room for the first line, and for as many points and pairs as there may be
-abbrev pub needListing : ℕ
-needListing = firstRoom + lineRoom * (maxPoints + needPairs)
 
 -- ---- the listing of the map that the lent tables hold, in the buffer `out`
 module _ (m : Map) (cells points statuses blockers pairs out : List ℕ) where

@@ -15,8 +15,7 @@ ghost use mathlib.Core.Path.{_≡_};
 ghost use mathlib.Core.Bool.{false};
 ghost use Rattle.model.specs.MapFile.{readFile};
 ghost use Rattle.model.specs.Refusal.{short};
-ghost use Rattle.answers.specs.Temp.{tablesOf};
-ghost use Rattle.held.specs.Holds.{needs};
+ghost use Rattle.held.specs.Holds.{needs, tablesOf};
 ghost use Rattle.report.specs.Filed.{EndedAs, Listed};
 
 // 0 and the map; or the refusal's number and the field's.

@@ -18,7 +18,7 @@ ghost use mathlib.Core.Option.{Option};
 ghost use Prim.Native.Nat.{ℕ, _≤_};
 ghost use lib.ListN.{length};
 ghost use Rattle.answers.specs.Asking.{Front};
-ghost use Rattle.answers.specs.Temp.{tablesOf};
+ghost use Rattle.held.specs.Holds.{tablesOf};
 ghost use Rattle.held.specs.Layers.{blocksOf, statusesOf};
 ghost use Rattle.model.specs.Answers.{free};
 ghost use Rattle.model.specs.Corner.{Bits, number, sees};

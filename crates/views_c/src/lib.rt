@@ -4,7 +4,7 @@ use held::map::Map;
 use limits::cell::Cell;
 use views::neighbours::neighbours;
 use views::visibility_from::visibility_from;
-ghost use Rattle.answers.specs.Temp.{tablesOf};
+ghost use Rattle.held.specs.Holds.{tablesOf};
 ghost use Rattle.views.specs.Seen.{Beside, InSight};
 
 // The neighbours of a cell that can be reached.

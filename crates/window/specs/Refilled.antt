@@ -5,7 +5,7 @@ use mathlib.Core.Logic.{_⊎_}
 use mathlib.Core.Bool.{true, false}
 use mathlib.Core.List.{List, _++_}
 use lib.ListN.{drop, length, take}
-use Rattle.window.specs.Wanted.{wanted}
+use Rattle.model.specs.Limits.{needWindow}
 use Rattle.window.specs.declared.input.Window.{Window}
 
 -- the bytes from one place up to another
@@ -29,8 +29,8 @@ pub record Refilled (w w′ : Window) (b b′ : List ℕ) : Type 0 where
   pub inside : Within w′ b′
   pub long : length b′ ≡ length b
   pub kept : Within w b → (a : List ℕ) × (bytesOf w′ b′ ≡ bytesOf w b ++ a)
-  pub enough : wanted ≤ length b → Within w b → (w′ .ended ≡ true) ⊎ (wanted ≤ w′ .end - w′ .from)
+  pub enough : needWindow ≤ length b → Within w b → (w′ .ended ≡ true) ⊎ (needWindow ≤ w′ .end - w′ .from)
   -- one with enough bytes, or after which the input ended, stays as it is
-  pub stays : (w .ended ≡ true) ⊎ (wanted ≤ w .end - w .from) → Within w b → (w′ ≡ w) × (b′ ≡ b)
+  pub stays : (w .ended ≡ true) ⊎ (needWindow ≤ w .end - w .from) → Within w b → (w′ ≡ w) × (b′ ≡ b)
   -- a window that has no place in the buffer is told as a failure
   pub outside : (Within w b → ⊥) → w′ .failed ≡ true

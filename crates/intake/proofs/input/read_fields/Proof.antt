@@ -8,11 +8,10 @@ use mathlib.Core.Bool.{true, false}
 use mathlib.Core.List.{List}
 use lib.ListN.{length}
 use Rattle.held.proofs.RoomLaws.{SameLong, same-both, same-none}
-use Rattle.answers.specs.Temp.{tablesOf}
-use Rattle.held.specs.Holds.{Tables, needs as needsOf}
+use Rattle.held.specs.Holds.{Tables, needs as needsOf, tablesOf}
 use Rattle.model.specs.Refusal.{short}
 use Rattle.window.specs.Refilled.{Within, bytesOf}
-use Rattle.window.specs.Wanted.{wanted}
+use Rattle.model.specs.Limits.{needWindow}
 use Rattle.intake.proofs.GoingLaws.{Going, behind, go-done, go-fill, go-more, go-refused, go-start, tables-long, within-long}
 use Rattle.intake.proofs.input.read_fields.Statement.{statement}
 use Rattle.intake.proofs.input.read_fields.Tie as tie
@@ -63,7 +62,7 @@ buffered p = p .refill .kept .1 .0 ∙ looping p .loop .inv .0
 small : (s : tie.Start Inv-loop μ-loop) → length (s .args .buffer .now) < 2 ^ 63
 small s = omega arith
 
-long : (s : tie.Start Inv-loop μ-loop) → (wanted ≤ length (s .args .buffer .now)) × (short (needsOf (lent s)) ≡ false)
+long : (s : tie.Start Inv-loop μ-loop) → (needWindow ≤ length (s .args .buffer .now)) × (short (needsOf (lent s)) ≡ false)
 long s = tables-long (s .args .buffer .now) (lent s) (s .pre)
 
 -- the window when it was refilled: its bytes, and what is known of them
@@ -80,13 +79,13 @@ fits p =
     let e = within-long (p .refill .result) (p .refill .last .1 .0) i in
     omega (arith, e, i .0, i .1, buffered p)
 
-wide : (p : tie.After-refill Inv-loop μ-loop) → (p .refill .result .ended ≡ true) ⊎ (wanted ≤ length (bytes p))
+wide : (p : tie.After-refill Inv-loop μ-loop) → (p .refill .result .ended ≡ true) ⊎ (needWindow ≤ length (bytes p))
 wide p =
     let l = looping p .loop in
     let i = p .refill .ensures .inside in
     let e = within-long (p .refill .result) (p .refill .last .1 .0) i in
-    let h : wanted ≤ length (l .buffer) = omega (arith, l .inv .0, long (start (looping p)) .0) in
-    ⊎-elim (λ z. inl z) (λ (k : wanted ≤ p .refill .result .end - p .refill .result .from). let j : wanted ≤ length (bytes p) = omega (arith, e, k) in inr j) (p .refill .ensures .enough h (l .inv .2))
+    let h : needWindow ≤ length (l .buffer) = omega (arith, l .inv .0, long (start (looping p)) .0) in
+    ⊎-elim (λ z. inl z) (λ (k : needWindow ≤ p .refill .result .end - p .refill .result .from). let j : needWindow ≤ length (bytes p) = omega (arith, e, k) in inr j) (p .refill .ensures .enough h (l .inv .2))
 
 sub-room : tie.Need-sub-room Inv-loop μ-loop
 sub-room c = omega (arith, small (c .before .before .before .before .before .before .before))

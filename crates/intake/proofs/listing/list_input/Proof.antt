@@ -6,12 +6,10 @@ use mathlib.Core.List.{[], _∷_}
 use lib.ListN.{length}
 use Rattle.answers.proofs.PassedLaws.{lacks-short, none-short}
 use Rattle.held.proofs.RoomLaws.{Enough}
-use Rattle.answers.specs.Temp.{tablesOf}
+use Rattle.held.specs.Holds.{Tables, tablesOf}
 use Rattle.answers.specs.Walks.{tableNeeds}
-use Rattle.held.specs.Holds.{Tables}
 use Rattle.report.proofs.CallLaws.{Whole, own-enough, whole-enough}
-use Rattle.report.specs.Reported.{needListing}
-use Rattle.window.specs.Wanted.{wanted}
+use Rattle.model.specs.Limits.{needListing, needWindow}
 use Rattle.model.specs.Refusal.{short}
 use Rattle.intake.specs.Shown.{lentOut}
 use Rattle.intake.proofs.ShownLaws.{out-long, shown-lacking, shown-map, shown-refused, shown-unread}
@@ -36,7 +34,7 @@ whole : (p : tie.After-read-map) → Whole (read p)
 whole p = let k = p .read-map .kept .1 .1 in record { cells = k .0; points = k .1 .0; statuses = k .1 .1 .0; blockers = k .1 .1 .1 .0; pairs = k .1 .1 .1 .1 .0 }
 
 judged : (p : tie.After-lacks2) → p .lacks2 .result ≡ short (lentOut (start p .args .buffer .now) (start p .args .out .now))
-judged p = lacks-short _ wanted _ (p .before .lacks .result) (p .lacks2 .result) (p .lacks2 .ensures) (lacks-short _ needListing _ false (p .before .lacks .result) (p .before .lacks .ensures) none-short)
+judged p = lacks-short _ needWindow _ (p .before .lacks .result) (p .lacks2 .result) (p .lacks2 .ensures) (lacks-short _ needListing _ false (p .before .lacks .result) (p .before .lacks .ensures) none-short)
 
 long : (p : tie.Else1) → short (lentOut (start (p .before) .args .buffer .now) (start (p .before) .args .out .now)) ≡ false
 long p = sym (judged (p .before)) ∙ p .if1 .left

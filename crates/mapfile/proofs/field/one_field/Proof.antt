@@ -11,8 +11,7 @@ use Rattle.mapfile.specs.Fields.{expectedOf, headOf}
 use Rattle.model.specs.MapFile as model
 use Rattle.model.specs.MapFile.{takeBatch, takeEnd, takeRadius, takeSize, taken}
 use Rattle.model.specs.Refusal.{short}
-use Rattle.answers.specs.Temp.{tablesOf}
-use Rattle.held.specs.Holds.{Tables}
+use Rattle.held.specs.Holds.{Tables, tablesOf}
 use Rattle.held.specs.Holds as tables
 use Rattle.mapfile.specs.Reads.{FieldRead, Took}
 use Rattle.mapfile.specs.declared.state.Reading.{Reading}

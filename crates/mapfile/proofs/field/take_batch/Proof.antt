@@ -1,8 +1,7 @@
 -- `field::take_batch`: the entries as numbers, then refused, or on to the next. Assumes nothing.
 use mathlib.Core.Path.{refl}
 use Rattle.visibility.specs.Change.{Lent}
-use Rattle.answers.specs.Temp.{tablesOf}
-use Rattle.held.specs.Holds.{Tables}
+use Rattle.held.specs.Holds.{Tables, tablesOf}
 use Rattle.mapfile.proofs.BatchLaws.{batch-refused, batch-taken, front, front-is, front-long, front-whole}
 use Rattle.mapfile.proofs.field.take_batch.Statement.{statement}
 use Rattle.mapfile.proofs.field.take_batch.Tie as tie

@@ -1,6 +1,5 @@
 -- `field::take_radius`: refused, or on to the batches. Assumes nothing.
-use Rattle.answers.specs.Temp.{tablesOf}
-use Rattle.held.specs.Holds.{Tables}
+use Rattle.held.specs.Holds.{Tables, tablesOf}
 use Rattle.mapfile.proofs.RadiusLaws.{radius-refused, radius-taken}
 use Rattle.mapfile.proofs.field.take_radius.Statement.{statement}
 use Rattle.mapfile.proofs.field.take_radius.Tie as tie

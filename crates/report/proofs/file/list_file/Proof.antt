@@ -6,9 +6,8 @@ use mathlib.Core.Path.{refl}
 use mathlib.Core.List.{[], _∷_}
 use lib.ListN.{length}
 use Rattle.model.specs.MapFile.{readFile}
-use Rattle.answers.specs.Temp.{tablesOf}
-use Rattle.held.specs.Holds.{Tables}
-use Rattle.report.specs.Reported.{needListing}
+use Rattle.held.specs.Holds.{Tables, tablesOf}
+use Rattle.model.specs.Limits.{needListing}
 use Rattle.report.proofs.CallLaws.{Whole, not-short, own-enough, whole-enough}
 use Rattle.report.proofs.EndLaws.{ended-done, ended-refused, list-read, list-refused, list-short}
 use Rattle.report.proofs.file.list_file.Statement.{statement}

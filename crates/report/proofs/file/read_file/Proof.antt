@@ -6,8 +6,7 @@ use mathlib.Core.List.{List}
 use lib.ListN.{drop, length}
 use Rattle.table.proofs.Parts.{tail-is}
 use Rattle.mapfile.specs.Reads.{FieldRead}
-use Rattle.answers.specs.Temp.{tablesOf}
-use Rattle.held.specs.Holds.{Tables}
+use Rattle.held.specs.Holds.{Tables, tablesOf}
 use Rattle.report.proofs.FileLaws.{ReadTo, more-within, read-done, read-more, read-none, read-refused}
 use Rattle.held.proofs.RoomLaws.{SameLong, same-both, same-none}
 use Rattle.report.proofs.file.read_file.Statement.{statement}

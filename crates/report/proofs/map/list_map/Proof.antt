@@ -14,9 +14,8 @@ use Rattle.answers.proofs.PassedLaws.{accepted, none-short, lacks-short}
 use Rattle.answers.specs.Asking.{refuseMap}
 use Rattle.answers.proofs.PointLaws.{used}
 use Rattle.answers.specs.Walks.{tableNeeds}
-use Rattle.model.specs.Limits.{maxCells, maxPoints, needPairs}
+use Rattle.model.specs.Limits.{maxCells, maxPoints, needListing, needPairs}
 use Rattle.model.specs.Refusal.{short}
-use Rattle.report.specs.Reported.{needListing}
 use Rattle.held.proofs.RoomLaws.{Enough}
 use Rattle.report.proofs.CallLaws.{call-accepted, map-accepted}
 use Rattle.report.proofs.MapLaws.{all-clamped, map-written}

@@ -9,8 +9,7 @@ use Rattle.answers.proofs.ListingLaws.{listing-refused}
 use Rattle.answers.proofs.PassedLaws.{refused-as, lacks-short, none-short}
 use Rattle.model.specs.Limits.{needOthers}
 use Rattle.table.specs.Tables.{stands}
-use Rattle.answers.specs.Temp.{tablesOf}
-use Rattle.held.specs.Holds.{Tables}
+use Rattle.held.specs.Holds.{Tables, tablesOf}
 use Rattle.views.specs.Seen.{sightLengths as lengths, refusal}
 use Rattle.views.proofs.VisibilityLaws.{Going, blockers-used, cells-used, paired-fits, paired-listed, points-used, row-inside, seen-fits, seen-listed, statuses-used}
 use Rattle.views.proofs.visibility_from.visibility_from.Statement.{statement}
