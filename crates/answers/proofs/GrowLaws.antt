@@ -8,7 +8,7 @@ use lib.ListN.{drop, getD, length, length-append, length-drop, length-set, set}
 use lib.Seq.{append-snoc, drop-cons, set-append-seam}
 use Rattle.answers.specs.Asking.{Front}
 
--- ---- one more is written behind those at the front
+-- ---- one more is written after those at the front
 front-put : (v t t′ : List ℕ) (n x : ℕ) → n < length t′ → Front v n t t′ → Front (v ++ (x ∷ [])) (n + 1) t (set t′ n x)
 front-put v t t′ n x k f =
     let e : n ≡ length v = f .0 in
@@ -20,7 +20,7 @@ front-put v t t′ n x k f =
     let s : set (v ++ (getD t n 0 ∷ r)) n x ≡ v ++ (x ∷ r) = ap (λ (j : ℕ). set (v ++ (getD t n 0 ∷ r)) j x) e ∙ set-append-seam v (getD t n 0) r x in
     (omega (arith, e, z), ap (λ (u : List ℕ). set u n x) (f .1 ∙ ap (λ (u : List ℕ). v ++ u) (drop-cons t n 0 h)) ∙ s ∙ sym (append-snoc v x r) ∙ rw (add-one n) refl)
 
--- ---- a walk over something x of which H tells what is lent: the whole is to be listed behind n₀ things at the front of t; there are n now in t′, and the rest is still to come
+-- ---- a walk over something x of which H tells what is lent: the whole is to be listed after n₀ things at the front of t; there are n now in t′, and the rest is still to come
 pub record Growing {X A : Type 0} (col : List A → List ℕ) (H : X → Type 0) (whole rest : X → List A) (n₀ n : ℕ) (t t′ : List ℕ) : Type 0 where
   pub same : length t′ ≡ length t
   pub told : (x : X) → H x → (v : List A) (o : List ℕ) → Front (col v) n₀ o t → (w : List A) × (v ++ whole x ≡ w ++ rest x) × Front (col w) n o t′

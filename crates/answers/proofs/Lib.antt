@@ -1,10 +1,9 @@
 -- The laws of crate `answers`.
 pub mod AskLaws
 pub mod CellLaws
-pub mod DeterminateAsk
-pub mod DeterminateCells
-pub mod DeterminateEdges
+pub mod Determinate
 pub mod EdgeLaws
+pub mod FillLaws
 pub mod FoundLaws
 pub mod GrowLaws
 pub mod ListingLaws

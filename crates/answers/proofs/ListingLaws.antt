@@ -51,7 +51,7 @@ same-count r q a b = rw (a, b) refl
 
 -- any two outcomes that a listing's contract permits are equal, of a map that is held
 module _ (n : ℕ) (Hold : model.Map → Type 0) (o p : Output) (os ps : List Output) (r q : Count) (a : Alike (o ∷ os) (p ∷ ps)) where
-  pub listing-one : Listing n Hold (o ∷ os) r → Listing n Hold (p ∷ ps) q → (M : model.Map) → Hold M → (r ≡ q) × Equal (o ∷ os) (p ∷ ps)
+  listing-one : Listing n Hold (o ∷ os) r → Listing n Hold (p ∷ ps) q → (M : model.Map) → Hold M → (r ≡ q) × Equal (o ∷ os) (p ∷ ps)
   listing-one x y M h = go n refl
     where
       go : (k : ℕ) → n ≡ k → (r ≡ q) × Equal (o ∷ os) (p ∷ ps)
@@ -63,7 +63,7 @@ module _ (n : ℕ) (Hold : model.Map → Type 0) (o p : Output) (os ps : List Ou
       go (suc k) e = (x .refused k e .0 ∙ sym (y .refused k e .0), untouched-one (o ∷ os) (p ∷ ps) a (x .refused k e .1) (y .refused k e .1))
 
   -- where it is refused, whatever the tables hold
-  pub refused-one : Listing n Hold (o ∷ os) r → Listing n Hold (p ∷ ps) q → (k : ℕ) → n ≡ suc k → (r ≡ q) × Equal (o ∷ os) (p ∷ ps)
+  refused-one : Listing n Hold (o ∷ os) r → Listing n Hold (p ∷ ps) q → (k : ℕ) → n ≡ suc k → (r ≡ q) × Equal (o ∷ os) (p ∷ ps)
   refused-one x y k e = (x .refused k e .0 ∙ sym (y .refused k e .0), untouched-one (o ∷ os) (p ∷ ps) a (x .refused k e .1) (y .refused k e .1))
 
 -- ---- both cases in one

@@ -4,19 +4,18 @@ use native.Mathlib.Omega.{arith}
 use mathlib.Core.Path.{_≡_, refl, sym, ap, _∙_}
 use mathlib.Core.List.{List, [], _∷_, _++_}
 use lib.ListN.{drop, getD, length, take}
-use Rattle.answers.specs.Asking.{Front, Written}
+use Rattle.answers.specs.Asking.{Written}
 use Rattle.model.specs.Answers.{allPairs, isOpen, openPairs}
 use Rattle.model.specs.Layer.{Layer, Pair, pairs}
 use Rattle.model.specs.Map as model
-use Rattle.model.specs.Maps.{sift}
 use Rattle.held.proofs.LayerLaws.{layer-blocks, layer-keys}
 use Rattle.held.proofs.NamedLaws.{blocks-named, pairs-named}
 use Rattle.held.specs.Holds.{Holds, Tables}
 use Rattle.held.specs.declared.map.Map.{Map}
 use Rattle.answers.specs.Columns.{greaters, lessers, pairBlocks}
-use Rattle.answers.specs.Walks.{Shown, ShownOpen, pairsOf, rowOf}
+use Rattle.answers.specs.Walks.{AllListed, OpenListed, OpenRowListed, RowListed, Shown, ShownOpen, openOf, pairsOf, rowOf}
 use Rattle.answers.proofs.ReadLaws.{inside, pairs-end, pairs-next, row-shut}
-use Rattle.answers.proofs.RowLaws.{EndsGrowing, OpenListed, RowListed, ends-more, ends-none, ends-pass}
+use Rattle.answers.proofs.RowLaws.{EndsGrowing, ends-more, ends-none, ends-pass}
 use Rattle.answers.proofs.GrowLaws.{Growing, growing-done, growing-more, growing-none}
 use Rattle.model.proofs.SiftLaws.{sift-append, sift-nil}
 
@@ -67,11 +66,6 @@ pub record AllTo (points table : List ℕ) (n i : ℕ) (a a′ b b′ c c′ : L
   pub ends : EndsGrowing (λ l. Shown l points table) pairsOf (λ l. pairs (drop i (l .points)) (l .edges)) 0 n a a′ b b′
   pub blocks : Growing pairBlocks (λ l. Shown l points table) pairsOf (λ l. pairs (drop i (l .points)) (l .edges)) 0 n c c′
 
--- what `list_all` promises
-abbrev pub AllListed : List ℕ → List ℕ → ℕ → List ℕ → List ℕ → List ℕ → List ℕ → List ℕ → List ℕ → Type 0
-AllListed points table r a a′ b b′ c c′ =
-    (l : Layer) → Shown l points table → Front (lessers (pairsOf l)) r a a′ × Front (greaters (pairsOf l)) r b b′ × Front (pairBlocks (pairsOf l)) r c c′
-
 module _ (points table a b c : List ℕ) where
   abbrev H : Layer → Type 0
   H l = Shown l points table
@@ -102,16 +96,11 @@ module _ (points table a b c : List ℕ) where
 
 -- ---- the open ones
 abbrev openFrom : ℕ → Layer → List Pair
-openFrom i l = sift (isOpen (l .points)) (from i l)
+openFrom i l = openOf l (from i l)
 
 pub record OpenTo (points blockers table : List ℕ) (n i : ℕ) (a a′ b b′ : List ℕ) : Type 0 where
   pub at : Counting (length points) n i
-  pub ends : EndsGrowing (λ l. ShownOpen l points blockers table) (λ l. sift (isOpen (l .points)) (pairsOf l)) (λ l. sift (isOpen (l .points)) (pairs (drop i (l .points)) (l .edges))) 0 n a a′ b b′
-
--- what `list_open` promises
-abbrev pub AllOpen : List ℕ → List ℕ → List ℕ → ℕ → List ℕ → List ℕ → List ℕ → List ℕ → Type 0
-AllOpen points blockers table r a a′ b b′ =
-    (l : Layer) → ShownOpen l points blockers table → Front (lessers (sift (isOpen (l .points)) (pairsOf l))) r a a′ × Front (greaters (sift (isOpen (l .points)) (pairsOf l))) r b b′
+  pub ends : EndsGrowing (λ l. ShownOpen l points blockers table) (λ l. openOf l (pairsOf l)) (λ l. openOf l (pairs (drop i (l .points)) (l .edges))) 0 n a a′ b b′
 
 module _ (points blockers table a b : List ℕ) where
   abbrev O : Layer → Type 0
@@ -122,14 +111,14 @@ module _ (points blockers table a b : List ℕ) where
 
   module _ (a′ b′ : List ℕ) (n i : ℕ) (s : OpenTo points blockers table n i a a′ b b′) where
     module _ (hi : i < length points) where
-      next : (l : Layer) → O l → openFrom i l ≡ sift (isOpen (l .points)) (rowOf l i) ++ openFrom (i + 1) l
-      next l h = ap (sift (isOpen (l .points))) (pairs-next l i (inside l points table (h .shown) i hi)) ∙ sift-append (isOpen (l .points)) (rowOf l i) (from (i + 1) l)
+      next : (l : Layer) → O l → openFrom i l ≡ openOf l (rowOf l i) ++ openFrom (i + 1) l
+      next l h = ap (openOf l) (pairs-next l i (inside l points table (h .shown) i hi)) ∙ sift-append (isOpen (l .points)) (rowOf l i) (from (i + 1) l)
 
-      pub open-more : (r : ℕ) (a″ b″ : List ℕ) → length a″ ≡ length a′ → length b″ ≡ length b′ → OpenListed points blockers table i n r a′ a″ b′ b″ → OpenTo points blockers table r (i + 1) a a″ b b″
+      pub open-more : (r : ℕ) (a″ b″ : List ℕ) → length a″ ≡ length a′ → length b″ ≡ length b′ → OpenRowListed points blockers table i n r a′ a″ b′ b″ → OpenTo points blockers table r (i + 1) a a″ b b″
       open-more r a″ b″ x y w = record {
         at = counting-row (length points) n i hi (s .at) r (w .0);
         ends =
-            ends-more O (openFrom 0) 0 a b (openFrom i) (openFrom (i + 1)) n a′ b′ (s .ends) (λ l. sift (isOpen (l .points)) (rowOf l i)) r a″ b″ next x y
+            ends-more O (openFrom 0) 0 a b (openFrom i) (openFrom (i + 1)) n a′ b′ (s .ends) (λ l. openOf l (rowOf l i)) r a″ b″ next x y
             (λ l h. w .1 l h .0) (λ l h. w .1 l h .1);
       }
 
@@ -142,9 +131,9 @@ module _ (points blockers table a b : List ℕ) where
             (λ l h. next l h ∙ ap (λ (u : List Pair). u ++ openFrom (i + 1) l) (row-shut l points blockers table h i (i + 1) hi f));
       }
 
-    pub open-end : length points ≤ i → AllOpen points blockers table n a a′ b b′
+    pub open-end : length points ≤ i → OpenListed points blockers table n a a′ b b′
     open-end h l g =
-        let z = ap (sift (isOpen (l .points))) (pairs-end l i points (g .shown .keysAre) h) ∙ sift-nil (isOpen (l .points)) in (
+        let z = ap (openOf l) (pairs-end l i points (g .shown .keysAre) h) ∙ sift-nil (isOpen (l .points)) in (
           growing-done lessers O (openFrom 0) 0 a (openFrom i) n a′ (s .ends .lesser) l g z [] a (refl, refl),
           growing-done greaters O (openFrom 0) 0 b (openFrom i) n b′ (s .ends .greater) l g z [] b (refl, refl),
         )
@@ -172,7 +161,7 @@ module _ (m : Map) (t : Tables) (M : model.Map) (h : Holds m t M) (points table 
     shown-open : ShownOpen (M .layer) (take (m .points) points) (take (m .points) blockers) table
     shown-open = record { shown = shown; order = h .good .pointOrder; blocksAre = ap (take (m .points)) (sym e) ∙ layer-blocks (h .layer); allNamed = blocks-named (h .good) }
 
-    pub open-written : (a a′ b b′ : List ℕ) (r : ℕ) → AllOpen (take (m .points) points) (take (m .points) blockers) table r a a′ b b′
+    pub open-written : (a a′ b b′ : List ℕ) (r : ℕ) → OpenListed (take (m .points) points) (take (m .points) blockers) table r a a′ b b′
         → Written M r (record { was = a; is = a′; wanted = λ M. lessers (openPairs M) } ∷ record { was = b; is = b′; wanted = λ M. greaters (openPairs M) } ∷ [])
     unfolding openPairs allPairs
     open-written a a′ b b′ r f =

@@ -1,32 +1,32 @@
--- The points of a map in the lent tables, and the walk that lists those that nothing blocks. Assumes nothing.
+-- The points of a map in the lent tables, and walks that list those that a test keeps. Assumes nothing.
 use Prim.Native.Nat.{ℕ, zero, suc, _+_, _≤_, _<_}
+use native.Mathlib.Nat.{le-of-suc-le-suc, not-suc-le-zero}
 use native.Mathlib.Numerals.{add-one}
 use native.Mathlib.Omega.{arith}
 use mathlib.Core.Path.{_≡_, refl, sym, ap, _∙_}
-use mathlib.Core.Bool.{Bool, true, false}
-use mathlib.Core.List.{List, [], _∷_, _++_}
+use mathlib.Core.Bool.{Bool, true, false, cond}
+use mathlib.Core.List.{List, [], _∷_}
 use mathlib.Core.Option.{Option, none, some}
 use lib.ListN.{drop, drop-of-length-le, getD, length, set, take}
 use lib.Seq.{drop-cons, length-take-le}
 use Rattle.answers.specs.Asking.{Front, Written}
 use Rattle.table.specs.Copied.{Copied}
-use Rattle.table.proofs.ListedLaws.{keys-at}
 use Rattle.held.proofs.LayerLaws.{codes-count, layer-blocks, layer-few, layer-keys, layer-statuses, statuses-length}
 use Rattle.held.specs.Layers.{blocksOf, statusesOf}
 use Rattle.model.specs.Answers.{free, freePoints}
 use Rattle.model.specs.Answers as asked
-use Rattle.model.specs.Corner.{zero4}
+use Rattle.model.specs.Corner.{number, zero4}
 use Rattle.model.specs.Layer.{Point, Points}
 use Rattle.model.specs.Map as model
 use Rattle.model.specs.Maps.{keys, sift}
 use Rattle.held.specs.Codes.{AllNamed, Named, blockCode, codes}
-use Rattle.table.proofs.ListedLaws.{keys-length}
+use Rattle.table.proofs.ListedLaws.{keys-at, keys-length}
 use Rattle.held.proofs.NamedLaws.{blocks-named}
 use Rattle.held.proofs.PadLaws.{copied}
 use Rattle.held.specs.Holds.{Holds, Tables}
 use Rattle.held.specs.declared.map.Map.{Map}
-use Rattle.answers.proofs.GrowLaws.{Growing, growing-done, growing-none, growing-pass, growing-put}
-use Rattle.model.proofs.SiftLaws.{sift-append, sift-nil, sift-one, sift-out}
+use Rattle.answers.specs.Walks.{FreeListed}
+use Rattle.answers.proofs.FillLaws.{Filling, filling-done, filling-none, filling-pass, filling-put}
 
 -- ---- the point at a place
 abbrev pub nowhere : ℕ × Point
@@ -38,12 +38,17 @@ pointAt ps i = getD ps i nowhere
 pub key-at : (ps : Points) (i : ℕ) → getD (keys ps) i 0 ≡ pointAt ps i .0
 key-at ps i = keys-at ps i (record { bits = zero4; block = none })
 
-block-at : (ps : Points) (i : ℕ) → getD (codes (blocksOf ps)) i 0 ≡ blockCode (pointAt ps i .1 .block)
+pub block-at : (ps : Points) (i : ℕ) → getD (codes (blocksOf ps)) i 0 ≡ blockCode (pointAt ps i .1 .block)
 block-at [] i = refl
 block-at (e ∷ ps) zero = refl
 block-at (e ∷ ps) (suc i) = block-at ps i
 
-named-at : (ps : Points) (i : ℕ) → AllNamed (blocksOf ps) → Named (pointAt ps i .1 .block)
+pub status-at : (ps : Points) (i : ℕ) → i < length ps → getD (statusesOf ps) i 0 ≡ number (pointAt ps i .1 .bits)
+status-at [] i h = absurd (not-suc-le-zero h)
+status-at (e ∷ ps) zero h = refl
+status-at (e ∷ ps) (suc i) h = status-at ps i (le-of-suc-le-suc h)
+
+pub named-at : (ps : Points) (i : ℕ) → AllNamed (blocksOf ps) → Named (pointAt ps i .1 .block)
 named-at [] i a = tt
 named-at (e ∷ ps) zero a = a .0
 named-at (e ∷ ps) (suc i) a = named-at ps i (a .1)
@@ -94,72 +99,82 @@ module _ (m : Map) (t : Tables) (M : model.Map) (h : Holds m t M) (points status
         let w = column (take n blockers) (codes (blocksOf (M .layer .points))) blocks blocks′ n (ap (take n) (sym b) ∙ layer-blocks (h .layer)) (c ∙ sym (codes-count (M .layer .points))) (omega (arith, few, rc)) z in
         (u .0, u .1, (v .0, v .1, (w .0, w .1, tt)))
 
+-- ---- a loop that writes the keys of the points that a test keeps; h tells which points are lent
+module _ (H : Type 0) (points : List ℕ) (of : H → Points) (same : (h : H) → points ≡ keys (of h)) (K : ℕ × Point → Bool) where
+  abbrev left : H → ℕ → List ℕ
+  left h i = keys (sift K (drop i (of h)))
+
+  -- the table after the first i points
+  abbrev pub Keeping : List ℕ → List ℕ → ℕ → ℕ → Type 0
+  Keeping a a′ n i = Filling H left (length points) a a′ n i
+
+  many : (h : H) → length points ≡ length (of h)
+  many h = ap length (same h) ∙ keys-length (of h)
+
+  pub keeping-none : (a : List ℕ) → length points ≤ length a → Keeping a a 0 0
+  keeping-none a room = filling-none H left (length points) a room
+
+  module _ (a a′ : List ℕ) (n i : ℕ) (w : Keeping a a′ n i) where
+    module _ (more : i < length points) where
+      next : (h : H) (b : Bool) → K (pointAt (of h) i) ≡ b → left h i ≡ cond b (getD points i 0 ∷ left h (i + 1)) (left h (i + 1))
+      unfolding keys sift
+      next h b e =
+          let inside : i < length (of h) = rw (many h) at more in
+          let key : getD points i 0 ≡ pointAt (of h) i .0 = ap (λ (t : List ℕ). getD t i 0) (same h) ∙ key-at (of h) i in
+          rw (add-one i, drop-cons (of h) i nowhere inside, key, e) (go b (sift K (drop (suc i) (of h))))
+        where
+          go : (b : Bool) (l : Points) → keys (cond b (pointAt (of h) i ∷ l) l) ≡ cond b (pointAt (of h) i .0 ∷ keys l) (keys l)
+          go true l = refl
+          go false l = refl
+
+      pub keeping-put : ((h : H) → K (pointAt (of h) i) ≡ true) → Keeping a (set a′ n (getD points i 0)) (n + 1) (i + 1)
+      keeping-put f = filling-put H left (length points) a a′ n i w (getD points i 0) more (λ h. next h true (f h))
+
+      pub keeping-pass : ((h : H) → K (pointAt (of h) i) ≡ false) → Keeping a a′ n (i + 1)
+      keeping-pass f = filling-pass H left (length points) a a′ n i w more (λ h. next h false (f h))
+
+    pub keeping-all : length points ≤ i → (h : H) → Front (keys (sift K (of h))) n a a′
+    keeping-all b h = filling-done H left (length points) a a′ n i w h none
+      where
+        none : left h i ≡ []
+        none = unfold keys sift in rw (drop-of-length-le (of h) (rw (many h) at b)) refl
+
 -- ---- the points that nothing blocks
--- the lent points and blockers are those of ps
-abbrev FreeShown : List ℕ → List ℕ → Points → Type 0
-FreeShown points blockers ps = (points ≡ keys ps) × (blockers ≡ codes (blocksOf ps)) × AllNamed (blocksOf ps)
+-- what the contract supposes of the tables
+pub record FreeShown (points blockers : List ℕ) : Type 0 where
+  pub ps : Points
+  pub keysAre : points ≡ keys ps
+  pub blocksAre : blockers ≡ codes (blocksOf ps)
+  pub named : AllNamed (blocksOf ps)
 
--- after the first i points
-pub record FreeTo (points blockers out out′ : List ℕ) (n i : ℕ) : Type 0 where
-  pub few : i ≤ length points
-  pub up : n ≤ i
-  pub grown : Growing keys (FreeShown points blockers) (λ ps. sift unblocked ps) (λ ps. sift unblocked (drop i ps)) 0 n out out′
+module _ (points blockers : List ℕ) where
+  abbrev of : FreeShown points blockers → Points
+  of h = h .ps
 
-keys-snoc : (v : Points) (x : ℕ × Point) → keys (v ++ (x ∷ [])) ≡ keys v ++ (x .0 ∷ [])
-unfolding keys
-keys-snoc [] x = refl
-keys-snoc (e ∷ v) x = ap (λ (r : List ℕ). e .0 ∷ r) (keys-snoc v x)
+  abbrev same : (h : FreeShown points blockers) → points ≡ keys (of h)
+  same h = h .keysAre
 
-pub free-none : (points blockers out : List ℕ) → FreeTo points blockers out out 0 0
-free-none points blockers out = record { few = omega arith; up = omega arith; grown = growing-none keys (FreeShown points blockers) (λ ps. sift unblocked ps) 0 out }
+  abbrev pub FreeTo : List ℕ → List ℕ → ℕ → ℕ → Type 0
+  FreeTo out out′ n i = Keeping (FreeShown points blockers) points of same unblocked out out′ n i
 
-module _ (points blockers out out′ : List ℕ) (n i : ℕ) (more : i < length points) (s : FreeTo points blockers out out′ n i) where
-  -- the point at i, and those behind
-  next : (ps : Points) → points ≡ keys ps → sift unblocked (drop i ps) ≡ sift unblocked (pointAt ps i ∷ []) ++ sift unblocked (drop (i + 1) ps)
-  next ps p =
-      let e : length points ≡ length ps = ap length p ∙ keys-length ps in
-      let h : i < length ps = omega (arith, e, more) in
-      rw (drop-cons ps i nowhere h, add-one i) (sift-append unblocked (pointAt ps i ∷ []) (drop (suc i) ps))
+  pub free-none : (out : List ℕ) → length points ≤ length out → FreeTo out out 0 0
+  free-none out = keeping-none (FreeShown points blockers) points of same unblocked out
 
-  pub free-put : length points ≤ length out → getD blockers i 0 ≡ 0 → FreeTo points blockers out (set out′ n (getD points i 0)) (n + 1) (i + 1)
-  free-put room z = record {
-    few = omega arith;
-    up = omega (arith, s .up);
-    grown =
-        growing-put keys (FreeShown points blockers) (λ ps. sift unblocked ps) 0 out (λ ps. sift unblocked (drop i ps)) (λ ps. sift unblocked (drop (i + 1) ps)) n out′ (s .grown)
-        (λ p. p .0) keys-snoc (λ ps. pointAt ps i) (getD points i 0)
-        (λ ps h. next ps (h .0) ∙ ap (λ (w : Points). w ++ sift unblocked (drop (i + 1) ps)) (sift-one unblocked (pointAt ps i) (reads-free blockers ps i (h .1) (h .2) z)))
-        (λ ps h. ap (λ (t : List ℕ). getD t i 0) (h .0) ∙ key-at ps i) (omega (arith, s .up, s .grown .same, room, more));
-  }
+  module _ (out out′ : List ℕ) (n i : ℕ) (s : FreeTo out out′ n i) where
+    pub free-put : i < length points → getD blockers i 0 ≡ 0 → FreeTo out (set out′ n (getD points i 0)) (n + 1) (i + 1)
+    free-put more z = keeping-put (FreeShown points blockers) points of same unblocked out out′ n i s more (λ h. reads-free blockers (h .ps) i (h .blocksAre) (h .named) z)
 
-  pub free-pass : (getD blockers i 0 ≡ 0 → ⊥) → FreeTo points blockers out out′ n (i + 1)
-  free-pass z = record {
-    few = omega arith;
-    up = omega (arith, s .up);
-    grown =
-        growing-pass keys (FreeShown points blockers) (λ ps. sift unblocked ps) 0 out (λ ps. sift unblocked (drop i ps)) (λ ps. sift unblocked (drop (i + 1) ps)) n out′ (s .grown)
-        (λ ps h. next ps (h .0) ∙ ap (λ (w : Points). w ++ sift unblocked (drop (i + 1) ps)) (sift-out unblocked (pointAt ps i) (reads-blocked blockers ps i (h .1) z)));
-  }
+    pub free-pass : i < length points → (getD blockers i 0 ≡ 0 → ⊥) → FreeTo out out′ n (i + 1)
+    free-pass more z = keeping-pass (FreeShown points blockers) points of same unblocked out out′ n i s more (λ h. reads-blocked blockers (h .ps) i (h .blocksAre) z)
 
--- what `write_free` promises
-abbrev pub Freed : List ℕ → List ℕ → List ℕ → List ℕ → ℕ → Type 0
-Freed points blockers out out′ r = (ps : Points) → points ≡ keys ps → blockers ≡ codes (blocksOf ps) → AllNamed (blocksOf ps)
-    → (r ≡ length (sift unblocked ps)) × (out′ ≡ keys (sift unblocked ps) ++ drop r out)
-
-pub free-all : (points blockers out out′ : List ℕ) (n i : ℕ) → length points ≤ i → FreeTo points blockers out out′ n i → Freed points blockers out out′ n
-unfolding keys
-free-all points blockers out out′ n i h s ps p b a =
-    let e : length points ≡ length ps = ap length p ∙ keys-length ps in
-    let g : length ps ≤ i = omega (arith, e, h) in
-    let z : sift unblocked (drop i ps) ≡ [] = ap (sift unblocked) (drop-of-length-le ps g) ∙ sift-nil unblocked in
-    let f = growing-done keys (FreeShown points blockers) (λ ps. sift unblocked ps) 0 out (λ ps. sift unblocked (drop i ps)) n out′ (s .grown) ps (p, b, a) z [] out (refl, refl) in
-    (f .0 ∙ keys-length (sift unblocked ps), f .1)
+    pub free-all : length points ≤ i → FreeListed points blockers n out out′
+    free-all b ps p q a = keeping-all (FreeShown points blockers) points of same unblocked out out′ n i s b (record { ps = ps; keysAre = p; blocksAre = q; named = a })
 
 module _ (m : Map) (t : Tables) (M : model.Map) (h : Holds m t M) (points blockers : List ℕ) (p : t .points ≡ points) (b : t .blockers ≡ blockers) where
-  pub free-written : (out out′ : List ℕ) (r : ℕ) → Freed (take (m .points) points) (take (m .points) blockers) out out′ r
+  pub free-written : (out out′ : List ℕ) (r : ℕ) → FreeListed (take (m .points) points) (take (m .points) blockers) r out out′
       → Written M r (record { was = out; is = out′; wanted = λ M. keys (freePoints M) } ∷ [])
   unfolding freePoints
   free-written out out′ r f =
       let n : ℕ = m .points in
       let w = f (M .layer .points) (ap (take n) (sym p) ∙ layer-keys (h .layer)) (ap (take n) (sym b) ∙ layer-blocks (h .layer)) (blocks-named (h .good)) in
-      (w .0 ∙ sym (keys-length (sift unblocked (M .layer .points))), w .1, tt)
+      (w .0, w .1, tt)

@@ -9,7 +9,7 @@ use Rattle.model.specs.Layer.{Layer, Pair}
 use Rattle.model.specs.Maps.{sift}
 use Rattle.held.specs.Codes.{blockCode}
 use Rattle.answers.specs.Columns.{greaters, lessers, pairBlocks}
-use Rattle.answers.specs.Walks.{Grows, Shown, ShownOpen, rowFrom, rowOf}
+use Rattle.answers.specs.Walks.{Grows, OpenRowListed, RowFits, RowListed, Shown, ShownOpen, openOf, rowFrom, rowOf}
 use Rattle.answers.proofs.ReadLaws.{pairAt, reads-blocker, reads-clear, reads-key, reads-none, reads-open, reads-other, reads-shut, reads-some, row-end}
 use Rattle.answers.proofs.GrowLaws.{Growing, growing-done, growing-more, growing-none, growing-pass, growing-put}
 use Rattle.model.proofs.SiftLaws.{sift-nil}
@@ -79,11 +79,6 @@ pub record RowTo (points table : List ℕ) (i count n j : ℕ) (a a′ b b′ c 
   pub ends : EndsGrowing (λ l. Shown l points table) (λ l. rowOf l i) (λ l. rowFrom l i j) count n a a′ b b′
   pub blocks : Growing pairBlocks (λ l. Shown l points table) (λ l. rowOf l i) (λ l. rowFrom l i j) count n c c′
 
--- what `list_row` promises
-abbrev pub RowListed : List ℕ → List ℕ → ℕ → ℕ → ℕ → List ℕ → List ℕ → List ℕ → List ℕ → List ℕ → List ℕ → Type 0
-RowListed points table i count r a a′ b b′ c c′ = (r + (i + 1) ≤ count + length points)
-    × ((l : Layer) → Shown l points table → Grows lessers (rowOf l i) count r a a′ × Grows greaters (rowOf l i) count r b b′ × Grows pairBlocks (rowOf l i) count r c c′)
-
 module _ (points table : List ℕ) (i count : ℕ) (hi : i < length points) (a b c : List ℕ) where
   abbrev H : Layer → Type 0
   H l = Shown l points table
@@ -103,7 +98,7 @@ module _ (points table : List ℕ) (i count : ℕ) (hi : i < length points) (a b
         blocks = growing-pass pairBlocks H whole count c (λ l. rowFrom l i j) (λ l. rowFrom l i (j + 1)) n c′ (s .blocks) (λ l h. reads-none l points table h i j hi hj e);
       }
 
-      module _ (f : getD table (64 * i + j) 0 ≡ 0 → ⊥) (ra : count + (length points - i - 1) ≤ length a) (rb : count + (length points - i - 1) ≤ length b) (rc : count + (length points - i - 1) ≤ length c) where
+      module _ (f : getD table (64 * i + j) 0 ≡ 0 → ⊥) (ra : RowFits points i count a) (rb : RowFits points i count b) (rc : RowFits points i count c) where
         row-put : (x : ℕ) → ((l : Layer) → H l → x ≡ blockCode (pairAt l i j .block))
             → RowTo points table i count (n + 1) (j + 1) a (set a′ n (getD points i 0)) b (set b′ n (getD points j 0)) c (set c′ n x)
         row-put x k =
@@ -142,19 +137,14 @@ module _ (points table : List ℕ) (i count : ℕ) (hi : i < length points) (a b
 -- ---- a row of the open ones
 pub record OpenRowTo (points blockers table : List ℕ) (i count n j : ℕ) (a a′ b b′ : List ℕ) : Type 0 where
   pub at : Passing (length points) i count n j
-  pub ends : EndsGrowing (λ l. ShownOpen l points blockers table) (λ l. sift (isOpen (l .points)) (rowOf l i)) (λ l. sift (isOpen (l .points)) (rowFrom l i j)) count n a a′ b b′
-
--- what `open_row` promises
-abbrev pub OpenListed : List ℕ → List ℕ → List ℕ → ℕ → ℕ → ℕ → List ℕ → List ℕ → List ℕ → List ℕ → Type 0
-OpenListed points blockers table i count r a a′ b b′ = (r + (i + 1) ≤ count + length points)
-    × ((l : Layer) → ShownOpen l points blockers table → Grows lessers (sift (isOpen (l .points)) (rowOf l i)) count r a a′ × Grows greaters (sift (isOpen (l .points)) (rowOf l i)) count r b b′)
+  pub ends : EndsGrowing (λ l. ShownOpen l points blockers table) (λ l. openOf l (rowOf l i)) (λ l. openOf l (rowFrom l i j)) count n a a′ b b′
 
 module _ (points blockers table : List ℕ) (i count : ℕ) (hi : i < length points) (z : getD blockers i 0 ≡ 0) (a b : List ℕ) where
   abbrev O : Layer → Type 0
   O l = ShownOpen l points blockers table
 
   abbrev opens : ℕ → Layer → List Pair
-  opens j l = sift (isOpen (l .points)) (rowFrom l i j)
+  opens j l = openOf l (rowFrom l i j)
 
   pub open-first : OpenRowTo points blockers table i count count (i + 1) a a b b
   open-first = record { at = passing-first (length points) i count hi; ends = ends-none O (opens (i + 1)) count a b }
@@ -170,7 +160,7 @@ module _ (points blockers table : List ℕ) (i count : ℕ) (hi : i < length poi
       pub open-shut : (getD blockers j 0 ≡ 0 → ⊥) → OpenRowTo points blockers table i count n (j + 1) a a′ b b′
       open-shut f = open-on (λ l h. reads-shut l points blockers table h i j hi hj f)
 
-      pub open-put : count + (length points - i - 1) ≤ length a → count + (length points - i - 1) ≤ length b → getD table (64 * i + j) 0 ≡ 1 → getD blockers j 0 ≡ 0
+      pub open-put : RowFits points i count a → RowFits points i count b → getD table (64 * i + j) 0 ≡ 1 → getD blockers j 0 ≡ 0
           → OpenRowTo points blockers table i count (n + 1) (j + 1) a (set a′ n (getD points i 0)) b (set b′ n (getD points j 0))
       open-put ra rb e y =
           let room = passing-room (length points) i count n j hj (s .at) in
@@ -183,11 +173,11 @@ module _ (points blockers table : List ℕ) (i count : ℕ) (hi : i < length poi
                 (λ l h. reads-open l points blockers table h i j hi hj e z y) (λ l h. reads-key l points table (h .shown) i) (λ l h. reads-key l points table (h .shown) j) ga gb;
           }
 
-    pub open-done : length points ≤ j → OpenListed points blockers table i count n a a′ b b′
+    pub open-done : length points ≤ j → OpenRowListed points blockers table i count n a a′ b b′
     open-done h = (
       omega (arith, s .at .few, s .at .up, h),
       λ l g.
-          let e = ap (sift (isOpen (l .points))) (row-end l i j points (g .shown .keysAre) h) ∙ sift-nil (isOpen (l .points)) in (
+          let e = ap (openOf l) (row-end l i j points (g .shown .keysAre) h) ∙ sift-nil (isOpen (l .points)) in (
             growing-done lessers O (opens (i + 1)) count a (opens j) n a′ (s .ends .lesser) l g e,
             growing-done greaters O (opens (i + 1)) count b (opens j) n b′ (s .ends .greater) l g e,
           ),

@@ -1,17 +1,24 @@
--- Between functions: what the walks over the pairs are lent, and what they list: the model's `pairs`, a row for each point (RULES 2.2, all pairs and open pairs; occupancy/mod.rs, `iter_edges`). Definitions only.
-use Prim.Native.Nat.{ℕ, _+_, _≤_}
+-- Between functions: what a map's five tables need; what the walks over points and pairs are lent, and what they list: the model's `pairs`, a row for each point (RULES 2.2, all pairs and open pairs; occupancy/mod.rs, `iter_points`, `iter_edges`). Definitions only.
+use Prim.Native.Nat.{ℕ, _+_, _-_, _≤_}
 use mathlib.Core.Path.{_≡_}
-use mathlib.Core.List.{List, _++_}
+use mathlib.Core.List.{List, _∷_, _++_}
 use lib.ListN.{drop, getD, length}
 use Rattle.answers.specs.Asking.{Front}
-use Rattle.model.specs.Layer.{Layer, Pair, pairs, pairsFrom}
-use Rattle.model.specs.Limits.{maxPoints}
-use Rattle.model.specs.Maps.{Asc, keys}
+use Rattle.answers.specs.Columns.{greaters, lessers, pairBlocks}
+use Rattle.model.specs.Answers.{free, isOpen}
+use Rattle.model.specs.Layer.{Layer, Pair, Points, pairs, pairsFrom}
+use Rattle.model.specs.Limits.{maxCells, maxPoints}
+use Rattle.model.specs.Maps.{Asc, keys, sift}
 use Rattle.held.specs.Codes.{AllNamed, codes}
-use Rattle.held.specs.Pairs.{Pairs, PairsNamed}
+use Rattle.held.specs.Pairs.{Pairs, PairsNamed, pairPlaces}
 use Rattle.held.specs.Layers.{blocksOf, edgeAt}
 
--- u is listed behind whatever n pairs v stand at the front of t, and there are r then; col names the column
+-- ---- the lengths of a map's five tables with their needs, and those of the rest
+abbrev pub tableNeeds : ℕ → ℕ → ℕ → ℕ → ℕ → List (ℕ × ℕ) → List (ℕ × ℕ)
+tableNeeds cells points statuses blockers pairs l = (cells, maxCells) ∷ (points, maxPoints) ∷ (statuses, maxPoints) ∷ (blockers, maxPoints) ∷ (pairs, pairPlaces) ∷ l
+
+-- ---- lists of pairs
+-- u is listed after any n pairs v that are at the front of t, and there are r then; col names the column
 abbrev pub Grows : (List Pair → List ℕ) → List Pair → ℕ → ℕ → List ℕ → List ℕ → Type 0
 Grows col u n r t t′ = (v : List Pair) (o : List ℕ) → Front (col v) n o t → Front (col (v ++ u)) r o t′
 
@@ -38,3 +45,33 @@ rowOf l i = rowFrom l i (i + 1)
 
 abbrev pub pairsOf : Layer → List Pair
 pairsOf l = pairs (l .points) (l .edges)
+
+-- ---- what the walks promise: r is how many pairs there are then; a, b and c are the columns
+-- the pairs of the i-th point with those after it have room in t, after `count` pairs
+abbrev pub RowFits : List ℕ → ℕ → ℕ → List ℕ → Type 0
+RowFits points i count t = count + (length points - i - 1) ≤ length t
+
+abbrev pub RowListed : List ℕ → List ℕ → ℕ → ℕ → ℕ → List ℕ → List ℕ → List ℕ → List ℕ → List ℕ → List ℕ → Type 0
+RowListed points table i count r a a′ b b′ c c′ = (r + (i + 1) ≤ count + length points)
+    × ((l : Layer) → Shown l points table → Grows lessers (rowOf l i) count r a a′ × Grows greaters (rowOf l i) count r b b′ × Grows pairBlocks (rowOf l i) count r c c′)
+
+abbrev pub AllListed : List ℕ → List ℕ → ℕ → List ℕ → List ℕ → List ℕ → List ℕ → List ℕ → List ℕ → Type 0
+AllListed points table r a a′ b b′ c c′ =
+    (l : Layer) → Shown l points table → Front (lessers (pairsOf l)) r a a′ × Front (greaters (pairsOf l)) r b b′ × Front (pairBlocks (pairsOf l)) r c c′
+
+-- the open pairs among some
+abbrev pub openOf : Layer → List Pair → List Pair
+openOf l = sift (isOpen (l .points))
+
+abbrev pub OpenRowListed : List ℕ → List ℕ → List ℕ → ℕ → ℕ → ℕ → List ℕ → List ℕ → List ℕ → List ℕ → Type 0
+OpenRowListed points blockers table i count r a a′ b b′ = (r + (i + 1) ≤ count + length points)
+    × ((l : Layer) → ShownOpen l points blockers table → Grows lessers (openOf l (rowOf l i)) count r a a′ × Grows greaters (openOf l (rowOf l i)) count r b b′)
+
+abbrev pub OpenListed : List ℕ → List ℕ → List ℕ → ℕ → List ℕ → List ℕ → List ℕ → List ℕ → Type 0
+OpenListed points blockers table r a a′ b b′ =
+    (l : Layer) → ShownOpen l points blockers table → Front (lessers (openOf l (pairsOf l))) r a a′ × Front (greaters (openOf l (pairsOf l))) r b b′
+
+-- ---- the points that nothing blocks, of the points whose keys and blockers are lent
+abbrev pub FreeListed : List ℕ → List ℕ → ℕ → List ℕ → List ℕ → Type 0
+FreeListed points blockers r out out′ = (ps : Points) → points ≡ keys ps → blockers ≡ codes (blocksOf ps) → AllNamed (blocksOf ps)
+    → Front (keys (sift (λ p. free (p .1 .block)) ps)) r out out′

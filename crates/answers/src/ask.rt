@@ -9,6 +9,7 @@ use question::judge::bad_numbered;
 use question::numbered::Numbered;
 use question::search::Question;
 use question::search::search;
+use sizes::CELLS;
 ghost use Rattle.answers.specs.Asks.{Asks, AsksNumbered};
 
 // The first occupied cell of the map, by x, then y, that qualifies, of a question by its shape's number: one that names no shape
@@ -18,7 +19,7 @@ pub fn ask_numbered(map: Map, cells: &[u64], numbered: Numbered) -> Answer
     ensures { λ r. ⌜ AsksNumbered map (now (cells .entry)) numbered r ⌝ }
 {
     let number = refuse(
-        lacks(cells.len(), 1024, false),
+        lacks(cells.len(), CELLS, false),
         map,
         false,
         bad_numbered(numbered),

@@ -1,10 +1,12 @@
 // The occupied cells of a map, and those with a corner.
 use crate::judge::Count;
 use crate::judge::lacks;
+use crate::judge::lacks_three;
 use crate::judge::refuse;
 use crate::judge::refused;
 use held::map::Map;
 use limits::cell::Cell;
+use sizes::CELLS;
 use table::copy::copy;
 ghost use Rattle.answers.specs.CellLists.{CornerCells, IsOccupied, OccupiedCells};
 
@@ -19,7 +21,7 @@ pub struct Told {
 pub fn is_occupied(map: Map, cells: &[u64], cell: Cell) -> Told
     ensures { λ r. ⌜ IsOccupied map (now (cells .entry)) (cell .x) (cell .y) r ⌝ }
 {
-    let number = refuse(lacks(cells.len(), 1024, false), map, false, false);
+    let number = refuse(lacks(cells.len(), CELLS, false), map, false, false);
     if number != 0 {
         return Told {
             refusal: number,
@@ -37,11 +39,7 @@ pub fn is_occupied(map: Map, cells: &[u64], cell: Cell) -> Told
 pub fn occupied_cells(map: Map, cells: &[u64], out: &mut [u64]) -> Count
     ensures { λ r. ⌜ OccupiedCells map (now (cells .entry)) (now (out .entry)) (now (out .exit)) r ⌝ }
 {
-    let short = lacks(
-        cells.len(),
-        sizes::CELLS,
-        lacks(out.len(), sizes::CELLS, false),
-    );
+    let short = lacks(cells.len(), CELLS, lacks(out.len(), CELLS, false));
     let number = refuse(short, map, false, false);
     if number != 0 {
         return refused(number);
@@ -58,11 +56,7 @@ pub fn occupied_cells(map: Map, cells: &[u64], out: &mut [u64]) -> Count
 pub fn corner_cells(map: Map, cells: &[u64], out: &mut [u64], statuses: &mut [u8]) -> Count
     ensures { λ r. ⌜ CornerCells map (now (cells .entry)) (now (out .entry)) (now (statuses .entry)) (now (out .exit)) (now (statuses .exit)) r ⌝ }
 {
-    let short = lacks(
-        cells.len(),
-        1024,
-        lacks(out.len(), 1024, lacks(statuses.len(), 1024, false)),
-    );
+    let short = lacks_three(cells.len(), out.len(), statuses.len(), CELLS, false);
     let number = refuse(short, map, false, false);
     if number != 0 {
         return refused(number);

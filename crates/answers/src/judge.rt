@@ -3,13 +3,20 @@ use held::map::Map;
 use limits::cell::Cell;
 use limits::judge::bad_size;
 use limits::radius::bad_radius;
+use sizes::CELLS;
+use sizes::LEAST_ASKED;
+use sizes::MOST_ASKED;
+use sizes::PAIRS;
+use sizes::POINTS;
 ghost use mathlib.Core.Path.{_≡_};
 ghost use mathlib.Core.Bool.{_||_};
 ghost use lib.Dec.{ltb};
-ghost use Prim.Native.Nat.{_+_};
+ghost use mathlib.Core.List.{List, _∷_};
+ghost use Prim.Native.Nat.{ℕ, _+_};
 ghost use Rattle.model.specs.Limits.{beyond, maxCoordinate};
-ghost use Rattle.model.specs.Refusal.{offMap};
+ghost use Rattle.model.specs.Refusal.{offMap, short};
 ghost use Rattle.answers.specs.Asking.{refuseMap, refusedWith};
+ghost use Rattle.answers.specs.Walks.{tableNeeds};
 
 // 0 and how many there are; or the refusal's number, and 0.
 #[repr(C)]
@@ -37,14 +44,42 @@ pub fn lacks(length: usize, need: usize, rest: bool) -> bool
     rest
 }
 
-// Whether a coordinate is more than 64 beyond those of a batch.
+// 9: whether one of three tables with the same need is, or one of the rest is.
+pub fn lacks_three(first: usize, second: usize, third: usize, need: usize, rest: bool) -> bool
+    ensures { λ r. ⌜ ((l : List (ℕ × ℕ)) → rest ≡ short l → r ≡ short ((first, need) ∷ (second, need) ∷ (third, need) ∷ l)) ⌝ }
+{
+    lacks(first, need, lacks(second, need, lacks(third, need, rest)))
+}
+
+// 9: whether one of a map's five tables is short of its need, or one of the rest is.
+pub fn lacks_tables(
+    cells: usize,
+    points: usize,
+    statuses: usize,
+    blockers: usize,
+    pairs: usize,
+    rest: bool,
+) -> bool
+    ensures { λ r. ⌜ ((l : List (ℕ × ℕ)) → rest ≡ short l → r ≡ short (tableNeeds cells points statuses blockers pairs l)) ⌝ }
+{
+    let layer = lacks_three(
+        points,
+        statuses,
+        blockers,
+        POINTS,
+        lacks(pairs, PAIRS, rest),
+    );
+    lacks(cells, CELLS, layer)
+}
+
+// Whether a coordinate is further outside than one in a question may be.
 fn beyond_edge(z: i64) -> bool
     ensures { λ r. ⌜ r ≡ offMap (maxCoordinate + beyond) z ⌝ }
 {
-    if z < sizes::LEAST_ASKED {
+    if z < LEAST_ASKED {
         return true;
     }
-    sizes::MOST_ASKED < z
+    MOST_ASKED < z
 }
 
 // 5: whether a cell named in a question is.
@@ -74,10 +109,10 @@ pub fn refuse(short: bool, map: Map, off: bool, bad: bool) -> u8
     if off {
         return 5;
     }
-    if sizes::CELLS < map.cells {
+    if CELLS < map.cells {
         return 6;
     }
-    if sizes::POINTS < map.points {
+    if POINTS < map.points {
         return 7;
     }
     if bad {

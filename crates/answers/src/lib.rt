@@ -1,4 +1,4 @@
-// What every call has in common that leaves the map as it is: how it is refused, and how many things it lists.
+// What may be asked of a map: is a cell occupied; the lists of cells, corner cells, points and pairs; the question of four shapes; what they have in common.
 pub mod ask;
 pub mod cells;
 pub mod judge;

@@ -1,21 +1,16 @@
 // The points of a map.
 use crate::judge::Count;
-use crate::judge::lacks;
+use crate::judge::lacks_three;
 use crate::judge::refuse;
 use crate::judge::refused;
 use held::map::Map;
+use sizes::POINTS;
 use table::bytes::copy_bytes;
 use table::copy::copy;
-ghost use mathlib.Core.Path.{_≡_};
-ghost use mathlib.Core.List.{_++_};
 ghost use Prim.Native.Nat.{_≤_};
-ghost use lib.ListN.{drop, length};
-ghost use Rattle.model.specs.Answers.{free};
-ghost use Rattle.model.specs.Layer.{Points};
-ghost use Rattle.model.specs.Maps.{keys, sift};
-ghost use Rattle.held.specs.Codes.{AllNamed, codes};
-ghost use Rattle.held.specs.Layers.{blocksOf};
+ghost use lib.ListN.{length};
 ghost use Rattle.answers.specs.PairLists.{AllPoints, FreePoints};
+ghost use Rattle.answers.specs.Walks.{FreeListed};
 
 // All points, ascending, with their statuses and their blockers (0 for none, or a key).
 pub fn all_points(
@@ -27,17 +22,16 @@ pub fn all_points(
     bits: &mut [u8],
     blocks: &mut [u64],
 ) -> Count
-    ensures { λ r. ⌜ AllPoints map (now (points .entry)) (now (statuses .entry)) (now (blockers .entry)) (now (out .entry)) (now (bits .entry)) (now (blocks .entry)) (now (out .exit)) (now (bits .exit)) (now (blocks .exit)) r ⌝ }
+    ensures { λ r. ⌜ AllPoints map (now (points .entry)) (now (statuses .entry)) (now (blockers .entry)) (now (out .entry)) (now (bits .entry))
+        (now (blocks .entry)) (now (out .exit)) (now (bits .exit)) (now (blocks .exit)) r ⌝ }
 {
-    let outputs = lacks(
-        out.len(),
-        64,
-        lacks(bits.len(), 64, lacks(blocks.len(), 64, false)),
-    );
-    let short = lacks(
+    let outputs = lacks_three(out.len(), bits.len(), blocks.len(), POINTS, false);
+    let short = lacks_three(
         points.len(),
-        64,
-        lacks(statuses.len(), 64, lacks(blockers.len(), 64, outputs)),
+        statuses.len(),
+        blockers.len(),
+        POINTS,
+        outputs,
     );
     let number = refuse(short, map, false, false);
     if number != 0 {
@@ -56,8 +50,7 @@ pub fn all_points(
 // Writes the points that nothing blocks to the front of `out`, and returns how many there are.
 fn write_free(points: &[u64], blockers: &[u64], out: &mut [u64]) -> usize
     requires { ⌜ (length (now points) ≤ length (now blockers)) × (length (now points) ≤ length (now out)) ⌝ }
-    ensures { λ r. ⌜ ((ps : Points) → now (points .entry) ≡ keys ps → now (blockers .entry) ≡ codes (blocksOf ps) → AllNamed (blocksOf ps)
-        → (r ≡ length (sift (λ p. free (p .1 .block)) ps)) × (now (out .exit) ≡ keys (sift (λ p. free (p .1 .block)) ps) ++ drop r (now (out .entry)))) ⌝ }
+    ensures { λ r. ⌜ FreeListed (now (points .entry)) (now (blockers .entry)) r (now (out .entry)) (now (out .exit)) ⌝ }
 {
     let mut n = 0;
     let mut i = 0;
@@ -75,11 +68,7 @@ fn write_free(points: &[u64], blockers: &[u64], out: &mut [u64]) -> usize
 pub fn free_points(map: Map, points: &[u64], blockers: &[u64], out: &mut [u64]) -> Count
     ensures { λ r. ⌜ FreePoints map (now (points .entry)) (now (blockers .entry)) (now (out .entry)) (now (out .exit)) r ⌝ }
 {
-    let short = lacks(
-        points.len(),
-        64,
-        lacks(blockers.len(), 64, lacks(out.len(), 64, false)),
-    );
+    let short = lacks_three(points.len(), blockers.len(), out.len(), POINTS, false);
     let number = refuse(short, map, false, false);
     if number != 0 {
         return refused(number);

@@ -7,7 +7,7 @@ use lib.Ieee.{Float}
 use Rattle.answers.proofs.ListingLaws.{Settled}
 use Rattle.held.specs.declared.map.Map.{Map}
 use Rattle.answers.proofs.AskLaws.{unknown-refused}
-use Rattle.answers.proofs.DeterminateAsk.{numbered-one}
+use Rattle.answers.proofs.Determinate.{numbered-one}
 use Rattle.answers.specs.Asks.{AsksNumbered}
 use Rattle.answers.specs.CellLists.{Lent, due}
 use Rattle.plane.specs.declared.point.Point.{Point}

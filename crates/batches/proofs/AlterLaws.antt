@@ -13,7 +13,7 @@ use Rattle.table.specs.Listed.{Listed}
 use Rattle.table.specs.Tables.{All}
 use Rattle.table.proofs.AllLaws.{all-map}
 use Rattle.table.proofs.ListedLaws.{keys-length, listed-cells}
-use Rattle.corner.specs.Changes.{Inner, Turned, numbered}
+use Rattle.corner.specs.Changes.{Inner, Toggled, numbered}
 use Rattle.corner.proofs.ChangeLaws.{inside-inner}
 use Rattle.limits.specs.Batches.{flags}
 use Rattle.batches.proofs.BatchLaws.{Settled, settled, batch-length}
@@ -28,14 +28,14 @@ pub flags-count : (b : Batch) → length (flags b) ≡ length b
 flags-count [] = refl
 flags-count (e ∷ b) = ap suc (flags-count b)
 
--- ---- what the first two steps promise, of the cells u and the turned cells k
+-- ---- what the first two steps promise, of the cells u and the confirmed cells k
 abbrev pub Confirms : List Entry → List ℕ → List ℕ → List ℕ → List ℕ → List ℕ → ℕ → Type 0
 Confirms l u conf conf′ full full′ r =
     AscL 0 u → unsorted l ≡ false → outside l ≡ false → length l ≤ length conf → length l ≤ length full → Listed (flags (confirmed (toBatch l) u)) conf conf′ full full′ r
 
 abbrev pub Alters : List ℕ → List ℕ → List ℕ → List ℕ → List ℕ → List ℕ → ℕ → Type 0
 Alters u k corn corn′ stat stat′ r =
-    (ch : Batch) (D : List ℕ) → k ≡ keys ch → Turned u k D → AscL 0 u → AscL 0 k → All Inner k → 9 * length k ≤ length corn → 9 * length k ≤ length stat
+    (ch : Batch) (D : List ℕ) → k ≡ keys ch → Toggled u k D → AscL 0 u → AscL 0 k → All Inner k → 9 * length k ≤ length corn → 9 * length k ≤ length stat
     → Listed (numbered (cornerChanges u D ch)) corn corn′ stat stat′ r
 
 -- ---- the listed changes, and the corners around them, of the batch l on the cells C
@@ -44,8 +44,8 @@ module _ (l : List Entry) (C conf conf′ full full′ : List ℕ) (changes : �
   abbrev ch₀ : Batch
   ch₀ = confirmed (toBatch l) C
 
-  pub changes-turned : take changes conf′ ≡ keys ch₀
-  changes-turned = listed-cells (flags ch₀) conf conf′ full full′ changes w ∙ flags-keys ch₀
+  pub changes-keys : take changes conf′ ≡ keys ch₀
+  changes-keys = listed-cells (flags ch₀) conf conf′ full full′ changes w ∙ flags-keys ch₀
 
   pub corners-listed : (corn corn′ stat stat′ : List ℕ) (altered : ℕ) → 9 * length l ≤ length corn → 9 * length l ≤ length stat → Alters C (take changes conf′) corn corn′ stat stat′ altered
       → Listed (numbered (cornerChanges C (cellsAfter (toBatch l) C) ch₀)) corn corn′ stat stat′ altered
@@ -56,4 +56,4 @@ module _ (l : List Entry) (C conf conf′ full full′ : List ℕ) (changes : �
       let z = s .fewer in
       let p : 9 * length (keys ch₀) ≤ length corn = omega (arith, x, y, z, hc) in
       let q : 9 * length (keys ch₀) ≤ length stat = omega (arith, x, y, z, hs) in
-      subst (λ (k : List ℕ). Alters C k corn corn′ stat stat′ altered) changes-turned g ch₀ (cellsAfter (toBatch l) C) refl (s .turned) asc (s .keyOrder) (all-map (keys ch₀) inside-inner (s .inside)) p q
+      subst (λ (k : List ℕ). Alters C k corn corn′ stat stat′ altered) changes-keys g ch₀ (cellsAfter (toBatch l) C) refl (s .toggled) asc (s .keyOrder) (all-map (keys ch₀) inside-inner (s .inside)) p q

@@ -53,10 +53,10 @@ confirmed-cells b C a =
     same-members 0 (cellsAfter (confirmed b C) C) (cellsAfter b C) (cells-order (confirmed b C) C a) (cells-order b C a)
     (λ x. cells-last (confirmed b C) C x ∙ sym (confirmed-last b C x))
 
--- ---- a cell is turned exactly if it is confirmed
-unturned : (t : Bool) → t ≡ not (Bool·beq t false)
-unturned true = refl
-unturned false = refl
+-- ---- a cell is toggled exactly if it is confirmed
+untoggled : (t : Bool) → t ≡ not (Bool·beq t false)
+untoggled true = refl
+untoggled false = refl
 
 differ : (t v : Bool) → Bool·beq t v ≡ false → not (Bool·beq v false) ≡ not (Bool·beq t true)
 differ true true e = absurd (true≢false e)
@@ -64,11 +64,11 @@ differ true false e = refl
 differ false true e = refl
 differ false false e = absurd (true≢false e)
 
-pub cells-turned : (lo : ℕ) (b : Batch) (C : List ℕ) → Asc lo b → (k : ℕ) → has k (cellsAfter b C) ≡ not (Bool·beq (has k C) (has k (keys (confirmed b C))))
+pub cells-toggled : (lo : ℕ) (b : Batch) (C : List ℕ) → Asc lo b → (k : ℕ) → has k (cellsAfter b C) ≡ not (Bool·beq (has k C) (has k (keys (confirmed b C))))
 unfolding cellsAfter confirmed keys has
-cells-turned lo [] C a k = unturned (has k C)
-cells-turned lo (e ∷ b) C a k =
-    cells-turned (suc (e .0)) b D (a .1) k ∙ go (Bool·beq (has (e .0) C) (e .1)) refl (ℕ-discrete k (e .0)) (asc-keys (suc (e .0)) (confirmed b D) (confirmed-ascends (suc (e .0)) b D (a .1)))
+cells-toggled lo [] C a k = untoggled (has k C)
+cells-toggled lo (e ∷ b) C a k =
+    cells-toggled (suc (e .0)) b D (a .1) k ∙ go (Bool·beq (has (e .0) C) (e .1)) refl (ℕ-discrete k (e .0)) (asc-keys (suc (e .0)) (confirmed b D) (confirmed-ascends (suc (e .0)) b D (a .1)))
   where
     D : List ℕ
     D = write (e .0) (e .1) C
@@ -104,7 +104,7 @@ pub record Settled (b : Batch) (C : List ℕ) : Type 0 where
   pub order : Asc 0 (confirmed b C)
   pub keyOrder : AscL 0 (keys (confirmed b C))
   pub fewer : length (confirmed b C) ≤ length b
-  pub turned : (k : ℕ) → has k (cellsAfter b C) ≡ not (Bool·beq (has k C) (has k (keys (confirmed b C))))
+  pub toggled : (k : ℕ) → has k (cellsAfter b C) ≡ not (Bool·beq (has k C) (has k (keys (confirmed b C))))
   pub inside : All (Inside maxCoordinate) (keys (confirmed b C))
   pub stays : All (Inside maxCoordinate) C → All (Inside maxCoordinate) (cellsAfter b C)
 
@@ -118,7 +118,7 @@ settled l C a u o =
       order = c;
       keyOrder = asc-keys 0 (confirmed b C) c;
       fewer = confirmed-fewer b C;
-      turned = cells-turned 0 b C s;
+      toggled = cells-toggled 0 b C s;
       inside = confirmed-inside l C o;
       stays = cells-inside l C o;
     }

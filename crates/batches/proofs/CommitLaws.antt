@@ -25,7 +25,7 @@ holds-table t n C h =
     let e : length (pad maxCells C) ≡ maxCells = pad-length maxCells C (h .room) in
     ap (λ (m : ℕ). take m t) (sym e) ∙ ap (take (length (pad maxCells C))) (h .table) ∙ take-append-seam (pad maxCells C) (drop maxCells t)
 
--- what `commit` promises, of the turned cells k with the numbers m, and the first places p of the table
+-- what `commit` promises, of the confirmed cells k with the numbers m, and the first places p of the table
 abbrev pub Commits : List ℕ → ℕ → List ℕ → List ℕ → List ℕ → ℕ → Type 0
 Commits p n k m w r =
     (b : Batch) → k ≡ keys b → m ≡ values (flags b) → Asc 0 b → Table p n → length (cellsAfter b (take n p)) ≤ length p → (w ≡ pad (length p) (cellsAfter b (take n p))) × (r ≡ length (cellsAfter b (take n p)))
@@ -40,7 +40,7 @@ module _ (l : List Entry) {t : List ℕ} {n : ℕ} {C : List ℕ} (holds : Holds
   s : Settled (toBatch l) C
   s = settled l C (holds .order) order bounds
 
-  module _ {k m w : List ℕ} {after : ℕ} (turned : k ≡ keys ch) (says : m ≡ values (flags ch)) (h : Commits (take maxCells t) n k m w after) where
+  module _ {k m w : List ℕ} {after : ℕ} (keysAre : k ≡ keys ch) (fullAre : m ≡ values (flags ch)) (h : Commits (take maxCells t) n k m w after) where
     -- the table of the first places
     pub committed : (w ≡ pad maxCells C′) × (after ≡ length C′)
     committed =
@@ -50,7 +50,7 @@ module _ (l : List Entry) {t : List ℕ} {n : ℕ} {C : List ℕ} (holds : Holds
         let T : Table (pad maxCells C) n = subst (λ (j : ℕ). Table (pad maxCells C) j) (sym (holds .count)) (pad-table maxCells C (holds .room) (holds .order)) in
         let c : cellsAfter ch (take n (pad maxCells C)) ≡ C′ = ap (cellsAfter ch) q ∙ s .cells in
         let r : length (cellsAfter ch (take n (pad maxCells C))) ≤ length (pad maxCells C) = rw (c, e) room in
-        let z = subst (λ (u : List ℕ). Commits u n k m w after) p h ch turned says (s .order) T r in
+        let z = subst (λ (u : List ℕ). Commits u n k m w after) p h ch keysAre fullAre (s .order) T r in
         (z .0 ∙ rw (c, e) refl, z .1 ∙ ap length c)
 
     pub committed-cells : w ++ drop maxCells t ≡ pad maxCells C′ ++ drop maxCells t

@@ -4,6 +4,6 @@ pub mod BatchLaws
 pub mod CommitLaws
 pub mod ListedLaws
 pub mod ListingLaws
+pub mod PickedLaws
 pub mod SetLaws
-pub mod TurnLaws
 pub mod WriteLaws

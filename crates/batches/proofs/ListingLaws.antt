@@ -14,7 +14,7 @@ use Rattle.table.specs.Listed.{Listed}
 use Rattle.limits.specs.Batches.{alters, entries, flags, isFull}
 use Rattle.limits.proofs.EntryLaws.{item, entries-cons, entries-end}
 use Rattle.batches.proofs.ListedLaws.{Part, part-start, part-next, part-end}
-use Rattle.batches.proofs.TurnLaws.{cells-count, confirmed-picked, fills, frees, one-more, picked}
+use Rattle.batches.proofs.PickedLaws.{cells-count, confirmed-picked, fills, frees, one-more, picked}
 
 -- the entries from i on
 abbrev pub rest : List ℤ → ℕ → Batch
@@ -43,7 +43,7 @@ bit-le : (b : Bool) → cond b 1 0 ≤ 1
 bit-le true = omega arith
 bit-le false = omega arith
 
--- ---- listed: n changes stand in the two tables
+-- ---- listed: n changes are in the two tables
 abbrev pub wanted : List ℕ → List ℤ → ℕ → List (ℕ × ℕ)
 wanted C b i = flags (picked alters C (rest b i))
 
@@ -61,13 +61,13 @@ listing-start C b out full = record { inside = omega arith; few = omega arith; c
 pub record Looked (C : List ℕ) (b : List ℤ) (i k : ℕ) (v s : Bool) : Type 0 where
   pub there : i + 2 < length b
   pub isKey : k ≡ key (item b i) (item b (i + 1))
-  pub says : v ≡ isFull (item b (i + 2))
-  pub turns : AscL 0 C → s ≡ alters (has k C) v
+  pub full : v ≡ isFull (item b (i + 2))
+  pub alters : AscL 0 C → s ≡ alters (has k C) v
 
 module _ {C : List ℕ} {b : List ℤ} {i k : ℕ} {v s : Bool} (e : Looked C b i k v s) where
   picked-next : (f : Bool → Bool → Bool) → picked f C (rest b i) ≡ cond (f (has k C) v) ((k, v) ∷ picked f C (rest b (i + 3))) (picked f C (rest b (i + 3)))
   unfolding sift
-  picked-next f = rw (e .isKey, e .says, rest-cons b i (e .there))
+  picked-next f = rw (e .isKey, e .full, rest-cons b i (e .there))
 
   count-next : (f : Bool → Bool → Bool) → length (picked f C (rest b i)) ≡ length (picked f C (rest b (i + 3))) + cond (f (has k C) v) 1 0
   count-next f = ap length (picked-next f) ∙ one-more (f (has k C) v) (k, v) (picked f C (rest b (i + 3)))
@@ -77,8 +77,8 @@ module _ {C : List ℕ} {b : List ℤ} {i k : ℕ} {v s : Bool} (e : Looked C b 
     inside = omega (arith, e .there);
     much = omega (arith, c .much, bit-le (s && v));
     few = omega (arith, c .few, bit-le (s && not v));
-    filled = λ a. let x : more′ ≡ more + cond (fills (has k C) v) 1 0 = rw (e .turns a) at p in omega (arith, c .filled a, count-next fills);
-    freed = λ a. let x : less′ ≡ less + cond (frees (has k C) v) 1 0 = rw (e .turns a) at q in omega (arith, c .freed a, count-next frees);
+    filled = λ a. let x : more′ ≡ more + cond (fills (has k C) v) 1 0 = rw (e .alters a) at p in omega (arith, c .filled a, count-next fills);
+    freed = λ a. let x : less′ ≡ less + cond (frees (has k C) v) 1 0 = rw (e .alters a) at q in omega (arith, c .freed a, count-next frees);
   }
 
   module _ {more less : ℕ} (c : Counted C b i more less) where
@@ -102,7 +102,7 @@ module _ {C : List ℕ} {b : List ℤ} {i k : ℕ} {v s : Bool} (e : Looked C b 
           cells = simp length-set (g .cells);
           numbers = simp length-set (g .numbers);
           listed = λ a.
-              let t : alters (has k C) v ≡ true = sym (e .turns a) ∙ p in
+              let t : alters (has k C) v ≡ true = sym (e .alters a) ∙ p in
               let w : wanted C b i ≡ (k, cond v 1 0) ∷ wanted C b (i + 3) = ap flags (picked-next alters) ∙ rw t refl in
               part-next (wanted C b 0) (wanted C b (i + 3)) out full n out′ full′ k (cond v 1 0) (subst (λ (r : List (ℕ × ℕ)). Part (wanted C b 0) r out full n out′ full′) w (g .listed a)) (omega arith) (omega arith);
         }
@@ -114,7 +114,7 @@ module _ {C : List ℕ} {b : List ℤ} {i k : ℕ} {v s : Bool} (e : Looked C b 
       cells = g .cells;
       numbers = g .numbers;
       listed = λ a.
-          let t : alters (has k C) v ≡ false = sym (e .turns a) ∙ p in
+          let t : alters (has k C) v ≡ false = sym (e .alters a) ∙ p in
           let w : wanted C b i ≡ wanted C b (i + 3) = ap flags (picked-next alters) ∙ rw t refl in
           subst (λ (r : List (ℕ × ℕ)). Part (wanted C b 0) r out full n out′ full′) w (g .listed a);
     }

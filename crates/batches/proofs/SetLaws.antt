@@ -9,7 +9,7 @@ use mathlib.Core.Bool.{true, false, true≢false}
 use mathlib.Core.List.{List, [], _∷_}
 use lib.ListN.{length}
 use Rattle.ieee.proofs.Tools.{lt-or-ge}
-use Rattle.model.specs.Maps.{AscL, add, cut, has, isSome, keys}
+use Rattle.model.specs.Maps.{AscL, add, cut, has, isSome}
 use Rattle.model.proofs.MapLaws.{eqb-yes, eqb-no, keys-has, keys-units, units, has-add-same, has-add-other, has-cut-same, has-cut-other}
 use Rattle.model.proofs.OrderLaws.{asc-get, asc-units, ascL-add, ascL-cut}
 use Rattle.table.proofs.LookLaws.{look, absent-length}

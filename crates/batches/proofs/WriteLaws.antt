@@ -79,26 +79,26 @@ insert-writes t r k t′ r′ c T h = (insert-table t r t′ r′ T k c, changed
     room = unfold added in rw (le-leb (length (add k (take r t))) (length t) h) refl
 
 -- ---- the loop: what is written, and the entries that are left
-pub record Writing (v : Bool) (turned full t : List ℕ) (n i : ℕ) (t′ : List ℕ) (r : ℕ) : Type 0 where
-  pub inside : i ≤ length turned
+pub record Writing (v : Bool) (confirmed full t : List ℕ) (n i : ℕ) (t′ : List ℕ) (r : ℕ) : Type 0 where
+  pub inside : i ≤ length confirmed
   pub same : length t′ ≡ length t
-  pub run : (b : Batch) → turned ≡ keys b → full ≡ values (flags b) → Table t n → length (writes v b (take n t)) ≤ length t
+  pub run : (b : Batch) → confirmed ≡ keys b → full ≡ values (flags b) → Table t n → length (writes v b (take n t)) ≤ length t
       → Table t′ r × (writes v (drop i b) (take r t′) ≡ writes v b (take n t))
 
-pub writing-start : (v : Bool) (turned full t : List ℕ) (n : ℕ) → Writing v turned full t n 0 t n
-writing-start v turned full t n = record { inside = zero-le; same = refl; run = λ b p q T h. (T, refl) }
+pub writing-start : (v : Bool) (confirmed full t : List ℕ) (n : ℕ) → Writing v confirmed full t n 0 t n
+writing-start v confirmed full t n = record { inside = zero-le; same = refl; run = λ b p q T h. (T, refl) }
 
 -- what a number in the list says: of a batch's list it is 0 or 1
-abbrev pub Says : ℕ → Bool → Type 0
-Says f u = (z : Bool) → f ≡ cond z 1 0 → z ≡ u
+abbrev pub Means : ℕ → Bool → Type 0
+Means f u = (z : Bool) → f ≡ cond z 1 0 → z ≡ u
 
-pub says-free : {f : ℕ} → f ≡ 0 → Says f false
-says-free h true e = absurd (omega arith)
-says-free h false e = refl
+pub means-free : {f : ℕ} → f ≡ 0 → Means f false
+means-free h true e = absurd (omega arith)
+means-free h false e = refl
 
-pub says-full : {f : ℕ} → f ≢ 0 → Says f true
-says-full h true e = refl
-says-full h false e = absurd (h e)
+pub means-full : {f : ℕ} → f ≢ 0 → Means f true
+means-full h true e = refl
+means-full h false e = absurd (h e)
 
 beq-self : (v : Bool) → Bool·beq v v ≡ true
 beq-self true = refl
@@ -108,42 +108,42 @@ beq-not : (v : Bool) → Bool·beq (not v) v ≡ false
 beq-not true = refl
 beq-not false = refl
 
-module _ {v : Bool} {turned full t : List ℕ} {n i : ℕ} {t′ : List ℕ} {r : ℕ} (w : Writing v turned full t n i t′ r) where
+module _ {v : Bool} {confirmed full t : List ℕ} {n i : ℕ} {t′ : List ℕ} {r : ℕ} (w : Writing v confirmed full t n i t′ r) where
   -- the entry at i
-  next : (b : Batch) (u : Bool) (D : List ℕ) → turned ≡ keys b → full ≡ values (flags b) → i < length turned → Says (getD full i 0) u
-      → writes v (drop i b) D ≡ writes v (drop (i + 1) b) (cond (Bool·beq u v) (write (getD turned i 0) v D) D)
+  next : (b : Batch) (u : Bool) (D : List ℕ) → confirmed ≡ keys b → full ≡ values (flags b) → i < length confirmed → Means (getD full i 0) u
+      → writes v (drop i b) D ≡ writes v (drop (i + 1) b) (cond (Bool·beq u v) (write (getD confirmed i 0) v D) D)
   unfolding writes
   next b u D p q h e =
       let l : i < length b = rw (p, keys-length b) at h in
       let x : ℕ × Bool = getD b i (0, false) in
       let m : Batch = drop (i + 1) b in
       let d : drop i b ≡ x ∷ m = drop-cons b i (0, false) l ∙ ap (λ (j : ℕ). x ∷ drop j b) (sym (add-one i)) in
-      let k : getD turned i 0 ≡ x .0 = ap (λ (y : List ℕ). getD y i 0) p ∙ keys-at b i false in
+      let k : getD confirmed i 0 ≡ x .0 = ap (λ (y : List ℕ). getD y i 0) p ∙ keys-at b i false in
       let s : x .1 ≡ u = e (x .1) (ap (λ (y : List ℕ). getD y i 0) q ∙ flags-at b i) in
       ap (λ (y : Batch). writes v y D) d
       ∙ ap (λ (z : Bool). writes v m (cond (Bool·beq z v) (write (x .0) v D) D)) s
       ∙ ap (λ (j : ℕ). writes v m (cond (Bool·beq u v) (write j v D) D)) (sym k)
 
-  pub writing-same : i < length turned → Says (getD full i 0) (not v) → Writing v turned full t n (i + 1) t′ r
+  pub writing-same : i < length confirmed → Means (getD full i 0) (not v) → Writing v confirmed full t n (i + 1) t′ r
   writing-same h e = record {
     inside = omega arith;
     same = w .same;
     run = λ b p q T f.
         let g = w .run b p q T f in
         let s : writes v (drop i b) (take r t′) ≡ writes v (drop (i + 1) b) (take r t′) =
-        next b (not v) (take r t′) p q h e ∙ ap (λ (z : Bool). writes v (drop (i + 1) b) (cond z (write (getD turned i 0) v (take r t′)) (take r t′))) (beq-not v) in
+        next b (not v) (take r t′) p q h e ∙ ap (λ (z : Bool). writes v (drop (i + 1) b) (cond z (write (getD confirmed i 0) v (take r t′)) (take r t′))) (beq-not v) in
         (g .0, sym s ∙ g .1);
   }
 
-  pub writing-more : (t″ : List ℕ) (r″ : ℕ) → i < length turned → Says (getD full i 0) v → length t″ ≡ length t′
-      → (Table t′ r → (v ≡ true → length (add (getD turned i 0) (take r t′)) ≤ length t′) → Table t″ r″ × (take r″ t″ ≡ write (getD turned i 0) v (take r t′)))
-      → Writing v turned full t n (i + 1) t″ r″
+  pub writing-more : (t″ : List ℕ) (r″ : ℕ) → i < length confirmed → Means (getD full i 0) v → length t″ ≡ length t′
+      → (Table t′ r → (v ≡ true → length (add (getD confirmed i 0) (take r t′)) ≤ length t′) → Table t″ r″ × (take r″ t″ ≡ write (getD confirmed i 0) v (take r t′)))
+      → Writing v confirmed full t n (i + 1) t″ r″
   writing-more t″ r″ h e m change = record {
     inside = omega arith;
     same = m ∙ w .same;
     run = λ b p q T f.
         let g = w .run b p q T f in
-        let k : ℕ = getD turned i 0 in
+        let k : ℕ = getD confirmed i 0 in
         let D : List ℕ = take r t′ in
         let s : writes v (drop i b) D ≡ writes v (drop (i + 1) b) (write k v D) =
         next b v D p q h e ∙ ap (λ (z : Bool). writes v (drop (i + 1) b) (cond z (write k v D) D)) (beq-self v) in
@@ -156,7 +156,7 @@ module _ {v : Bool} {turned full t : List ℕ} {n i : ℕ} {t′ : List ℕ} {r 
         (c .0, ap (writes v (drop (i + 1) b)) (c .1) ∙ whole);
   }
 
-  pub writing-end : length turned ≤ i → Written v turned full t n t′ r
+  pub writing-end : length confirmed ≤ i → Written v confirmed full t n t′ r
   unfolding writes
   writing-end h = λ b p q T f.
       let g = w .run b p q T f in
@@ -164,11 +164,11 @@ module _ {v : Bool} {turned full t : List ℕ} {n i : ℕ} {t′ : List ℕ} {r 
       (g .0, ap (λ (m : Batch). writes v m (take r t′)) (sym (drop-of-length-le b l)) ∙ g .1)
 
 -- ---- out, and then in
-pub commit-is : (turned full t : List ℕ) (n : ℕ) (t′ : List ℕ) (r : ℕ) (t″ : List ℕ) (r″ : ℕ) → Written false turned full t n t′ r → Written true turned full t′ r t″ r″
+pub commit-is : (confirmed full t : List ℕ) (n : ℕ) (t′ : List ℕ) (r : ℕ) (t″ : List ℕ) (r″ : ℕ) → Written false confirmed full t n t′ r → Written true confirmed full t′ r t″ r″
     → length t′ ≡ length t → length t″ ≡ length t
-    → (b : Batch) → turned ≡ keys b → full ≡ values (flags b) → Asc 0 b → Table t n → length (cellsAfter b (take n t)) ≤ length t
+    → (b : Batch) → confirmed ≡ keys b → full ≡ values (flags b) → Asc 0 b → Table t n → length (cellsAfter b (take n t)) ≤ length t
     → (t″ ≡ pad (length t) (cellsAfter b (take n t))) × (r″ ≡ length (cellsAfter b (take n t)))
-commit-is turned full t n t′ r t″ r″ out into m m′ b p q a T h =
+commit-is confirmed full t n t′ r t″ r″ out into m m′ b p q a T h =
     let C : List ℕ = take n t in
     let A : List ℕ = writes false b C in
     let whole : cellsAfter b C ≡ writes true b A = cells-written 0 b C a (T .asc) in
@@ -182,5 +182,5 @@ commit-is turned full t n t′ r t″ r″ out into m m′ b p q a T h =
     (table-pad t″ r″ (i .0) ∙ ap (λ (j : ℕ). pad j (take r″ t″)) m′ ∙ ap (pad (length t)) x, sym (length-take-le r″ t″ (i .0 .room)) ∙ ap length x)
 
 -- a list of another length is no batch's
-pub listed-lengths : (turned full : List ℕ) (b : Batch) → turned ≡ keys b → full ≡ values (flags b) → length turned ≡ length full
-listed-lengths turned full b p q = ap length p ∙ keys-length b ∙ sym (ap length q ∙ flags-length b)
+pub listed-lengths : (confirmed full : List ℕ) (b : Batch) → confirmed ≡ keys b → full ≡ values (flags b) → length confirmed ≡ length full
+listed-lengths confirmed full b p q = ap length p ∙ keys-length b ∙ sym (ap length q ∙ flags-length b)

@@ -39,7 +39,7 @@ fn full_at(batch: &[i64], i: usize) -> bool
 }
 
 // Whether an entry alters occupancy.
-fn turns(cells: &[u64], k: u64, full: bool) -> bool
+fn alters(cells: &[u64], k: u64, full: bool) -> bool
     ensures { λ r. ⌜ (AscL 0 (now (cells .entry)) → r ≡ alters (has k (now (cells .entry))) full) ⌝ }
 {
     if full {
@@ -58,7 +58,7 @@ pub fn count_after(cells: &[u64], batch: &[i64]) -> usize
     let mut i = 0;
     while i + 2 < batch.len() {
         let full = full_at(batch, i);
-        if turns(cells, key_at(batch, i), full) {
+        if alters(cells, key_at(batch, i), full) {
             if full {
                 more += 1;
             } else {
@@ -85,9 +85,12 @@ fn flag(full: bool) -> u8
 pub fn confirm(cells: &[u64], batch: &[i64], out: &mut [u64], full: &mut [u8]) -> usize
     ensures { λ r. ⌜ (AscL 0 (now (cells .entry)) → unsorted (entries (now (batch .entry))) ≡ false → outside (entries (now (batch .entry))) ≡ false
         → length (entries (now (batch .entry))) ≤ length (now (out .entry)) → length (entries (now (batch .entry))) ≤ length (now (full .entry))
-        → Listed (flags (confirmed (toBatch (entries (now (batch .entry)))) (now (cells .entry)))) (now (out .entry)) (now (out .exit)) (now (full .entry)) (now (full .exit)) r)
-        × (length (now (out .entry)) < length (entries (now (batch .entry))) → Unlisted (now (out .entry)) (now (out .exit)) (now (full .entry)) (now (full .exit)) r)
-        × (length (now (full .entry)) < length (entries (now (batch .entry))) → Unlisted (now (out .entry)) (now (out .exit)) (now (full .entry)) (now (full .exit)) r)
+        → Listed (flags (confirmed (toBatch (entries (now (batch .entry)))) (now (cells .entry))))
+        (now (out .entry)) (now (out .exit)) (now (full .entry)) (now (full .exit)) r)
+        × (length (now (out .entry)) < length (entries (now (batch .entry)))
+        → Unlisted (now (out .entry)) (now (out .exit)) (now (full .entry)) (now (full .exit)) r)
+        × (length (now (full .entry)) < length (entries (now (batch .entry)))
+        → Unlisted (now (out .entry)) (now (out .exit)) (now (full .entry)) (now (full .exit)) r)
         × (r ≤ length (entries (now (batch .entry)))) ⌝ }
 {
     if out.len() < batch.len() / 3 || full.len() < batch.len() / 3 {
@@ -98,7 +101,7 @@ pub fn confirm(cells: &[u64], batch: &[i64], out: &mut [u64], full: &mut [u8]) -
     while i + 2 < batch.len() {
         let k = key_at(batch, i);
         let on = full_at(batch, i);
-        if turns(cells, k, on) {
+        if alters(cells, k, on) {
             out[n] = k;
             full[n] = flag(on);
             n += 1;
@@ -109,15 +112,15 @@ pub fn confirm(cells: &[u64], batch: &[i64], out: &mut [u64], full: &mut [u8]) -
 }
 
 // Takes the listed cells that are to be free out of the first n.
-fn take_out(cells: &mut [u64], n: usize, turned: &[u64], full: &[u8]) -> usize
-    requires { ⌜ length (now turned) ≤ length (now full) ⌝ }
-    ensures { λ r. ⌜ Written false (now (turned .entry)) (now (full .entry)) (now (cells .entry)) n (now (cells .exit)) r ⌝ }
+fn take_out(cells: &mut [u64], n: usize, confirmed: &[u64], full: &[u8]) -> usize
+    requires { ⌜ length (now confirmed) ≤ length (now full) ⌝ }
+    ensures { λ r. ⌜ Written false (now (confirmed .entry)) (now (full .entry)) (now (cells .entry)) n (now (cells .exit)) r ⌝ }
 {
     let mut used = n;
     let mut i = 0;
-    while i < turned.len() {
+    while i < confirmed.len() {
         if full[i] == 0 {
-            used = remove(cells, used, turned[i]);
+            used = remove(cells, used, confirmed[i]);
         }
         i += 1;
     }
@@ -125,15 +128,15 @@ fn take_out(cells: &mut [u64], n: usize, turned: &[u64], full: &[u8]) -> usize
 }
 
 // Puts the listed cells that are to be occupied among the first n.
-fn put_in(cells: &mut [u64], n: usize, turned: &[u64], full: &[u8]) -> usize
-    requires { ⌜ length (now turned) ≤ length (now full) ⌝ }
-    ensures { λ r. ⌜ Written true (now (turned .entry)) (now (full .entry)) (now (cells .entry)) n (now (cells .exit)) r ⌝ }
+fn put_in(cells: &mut [u64], n: usize, confirmed: &[u64], full: &[u8]) -> usize
+    requires { ⌜ length (now confirmed) ≤ length (now full) ⌝ }
+    ensures { λ r. ⌜ Written true (now (confirmed .entry)) (now (full .entry)) (now (cells .entry)) n (now (cells .exit)) r ⌝ }
 {
     let mut used = n;
     let mut i = 0;
-    while i < turned.len() {
+    while i < confirmed.len() {
         if full[i] != 0 {
-            used = insert(cells, used, turned[i]);
+            used = insert(cells, used, confirmed[i]);
         }
         i += 1;
     }
@@ -142,13 +145,15 @@ fn put_in(cells: &mut [u64], n: usize, turned: &[u64], full: &[u8]) -> usize
 
 // Changes the first n cells as listed, and returns how many there are then. Cells are taken out before others are put in, so
 // that there is never less room than at the end.
-pub fn commit(cells: &mut [u64], n: usize, turned: &[u64], full: &[u8]) -> usize
-    ensures { λ r. ⌜ ((b : Batch) → now (turned .entry) ≡ keys b → now (full .entry) ≡ values (flags b) → Asc 0 b → Table (now (cells .entry)) n → length (cellsAfter b (take n (now (cells .entry)))) ≤ length (now (cells .entry))
-        → (now (cells .exit) ≡ pad (length (now (cells .entry))) (cellsAfter b (take n (now (cells .entry))))) × (r ≡ length (cellsAfter b (take n (now (cells .entry)))))) ⌝ }
+pub fn commit(cells: &mut [u64], n: usize, confirmed: &[u64], full: &[u8]) -> usize
+    ensures { λ r. ⌜ ((b : Batch) → now (confirmed .entry) ≡ keys b → now (full .entry) ≡ values (flags b) → Asc 0 b → Table (now (cells .entry)) n
+        → length (cellsAfter b (take n (now (cells .entry)))) ≤ length (now (cells .entry))
+        → (now (cells .exit) ≡ pad (length (now (cells .entry))) (cellsAfter b (take n (now (cells .entry)))))
+        × (r ≡ length (cellsAfter b (take n (now (cells .entry)))))) ⌝ }
 {
-    if full.len() < turned.len() {
+    if full.len() < confirmed.len() {
         return n;
     }
-    let used = take_out(cells, n, turned, full);
-    put_in(cells, used, turned, full)
+    let used = take_out(cells, n, confirmed, full);
+    put_in(cells, used, confirmed, full)
 }

@@ -110,7 +110,7 @@ module _ {C p : List ℕ} {i joined : ℕ} (d : Down p) (room : i < length p) (i
       let v = root-some p d j in
       subst (Root p j) (root-one (later j (v .0) (g .whole j (v .0) a b (v .1)) (v .1)) w) (v .1)
 
-  -- a place from i on is i, or behind it
+  -- a place from i on is i, or comes after it
   split : (P : ℕ → Type 0) (j : ℕ) → i ≤ j → P i → (suc i ≤ j → P j) → P j
   split P j a x f = go (ℕ-discrete i j)
     where

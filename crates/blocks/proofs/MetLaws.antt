@@ -119,7 +119,7 @@ module _ {C p q : List ℕ} {i key n : ℕ} (d : Down p) (top : getD p i 0 ≡ i
         go true h = met-found (stands-inside key at C h) (sym (eqb-true key (getD C at 0) (right (ltb at (length C)) (eqb key (getD C at 0)) h))) (s .found h)
         go false h = met-none (s .missed h .0) (s .missed h .1) (λ a l g b t u. true≢false (sym (seen l b t (f a l g b t)) ∙ h))
 
--- ---- where the two cells stand
+-- ---- where the two cells are
 pub above-at : (C : List ℕ) → AscL 0 C → (i l : ℕ) → i < l → l < length C → getD C l 0 ≡ getD C i 0 + 1 → l ≡ i + 1
 above-at C a i l h b e = go (decLt (i + 1) l)
   where
@@ -127,7 +127,7 @@ above-at C a i l h b e = go (decLt (i + 1) l)
     go (yes x) = absurd (omega (arith, ascL-less 0 C i (i + 1) a (omega arith) (omega arith), ascL-less 0 C (i + 1) l a x b))
     go (no x) = omega arith
 
--- r: the place of `key` in the part behind place i
+-- r: the place of `key` in the part after place i
 pub right-at : (C : List ℕ) → AscL 0 C → (i key r : ℕ) → (AscL 0 (take (length C - (i + 1)) (drop (i + 1) C)) → r ≡ rank key (take (length C - (i + 1)) (drop (i + 1) C)))
     → (l : ℕ) → i < l → l < length C → getD C l 0 ≡ key → l ≡ i + 1 + r
 right-at C a i key r f l h b e =

@@ -14,7 +14,7 @@ use Rattle.table.specs.Tables.{rank}
 use Rattle.table.proofs.AllLaws.{all-at, ascL-all, ascL-drop, ascL-less}
 use Rattle.table.proofs.RankLaws.{rank-above, rank-below}
 
--- each member stands at a place
+-- each member is at a place
 pub has-place : (k : ℕ) (l : List ℕ) → T (has k l) → (j : ℕ) × (j < length l) × (getD l j 0 ≡ k)
 unfolding has
 has-place k [] u = absurd u
@@ -27,7 +27,7 @@ has-place k (x ∷ l) u = ⊎-elim (λ e. (0, suc-le-suc zero-le, sym e)) (later
 pub asc-above : (lo k : ℕ) (l : List ℕ) → AscL lo l → T (has k l) → lo ≤ k
 asc-above lo k l a u = let r = has-place k l u in rw (sym (r .2)) (all-at (λ x. lo ≤ x) l (r .0) (ascL-all lo l a) (r .1))
 
--- a member stands at one place
+-- a member is at one place only
 pub asc-one : (l : List ℕ) → AscL 0 l → (i j : ℕ) → i < length l → j < length l → getD l i 0 ≡ getD l j 0 → i ≡ j
 asc-one l a i j h k e = go (decLt i j) (decLt j i)
   where
@@ -46,7 +46,7 @@ rank-at l a j h = go (rank-below (getD l j 0) l j h (omega arith)) (decLt (rank 
     go b (yes d) = absurd (let s : r < r = rank-above 0 (getD l j 0) l r a (omega arith) (ascL-less 0 l r j a d h) in let x = r in omega arith)
     go b (no d) = let x = r in omega arith
 
--- a member that stands behind place i is found there
+-- a member that comes after place i is found there
 pub rank-behind : (l : List ℕ) → AscL 0 l → (i j : ℕ) → i < j → j < length l → suc i + rank (getD l j 0) (drop (suc i) l) ≡ j
 rank-behind l a i j h k =
     let s : suc i + (j - suc i) ≡ j = omega arith in

@@ -23,7 +23,7 @@ pub record SameRoots (p p′ : List ℕ) : Type 0 where
   pub down : Down p′
   pub kept : (i r : ℕ) → Root p i r → Root p′ i r
 
--- the tree of `at` was joined to that of the root `to`, unless its root stands before `to` or is `to`: n is how many trees there are less
+-- the tree of `at` was joined to that of the root `to`, unless its root comes before `to` or is `to`: n is how many trees there are less
 pub record Joined (to at n : ℕ) (p p′ : List ℕ) : Type 0 where
   pub long : length p′ ≡ length p
   pub down : Down p′
@@ -32,7 +32,7 @@ pub record Joined (to at n : ℕ) (p p′ : List ℕ) : Type 0 where
   pub same : root ≤ to → (n ≡ 0) × ((i r : ℕ) → Root p i r → Root p′ i r)
   pub moved : to < root → (n ≡ 1) × ((i r : ℕ) → Root p i r → Root p′ i (cond (eqb r root) to r))
 
--- the same, if `key` stands at `at`
+-- the same, if `key` is at `at`
 pub record Sought (C : List ℕ) (at key to n : ℕ) (p p′ : List ℕ) : Type 0 where
   pub found : stands key at C ≡ true → Joined to at n p p′
   pub missed : stands key at C ≡ false → (n ≡ 0) × (p′ ≡ p)

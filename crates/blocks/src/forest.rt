@@ -20,7 +20,7 @@ pub(crate) fn root_of(parents: &mut [usize], at: usize) -> usize
     i
 }
 
-// Joins the tree of `at` to that of the root `to`. Returns 1, or 0 where it is the same tree. That no tree's root stands before `to`
+// Joins the tree of `at` to that of the root `to`. Returns 1, or 0 where it is the same tree. That no tree's root comes before `to`
 // need not be known: `<=` keeps every way downwards without it.
 pub(crate) fn join(parents: &mut [usize], to: usize, at: usize) -> usize
     requires { ⌜ Down (now parents) × (getD (now parents) to 0 ≡ to) × (at < length (now parents)) ⌝ }

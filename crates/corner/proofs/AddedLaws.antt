@@ -10,7 +10,7 @@ use borrow.Author.Tests.{ne-eqb}
 use Rattle.model.specs.Maps.{keys}
 use Rattle.table.specs.Listed.{Listed, values}
 use Rattle.table.proofs.ListedLaws.{keys-length, values-length}
-use Rattle.corner.specs.Turns.{Added}
+use Rattle.corner.specs.Added.{Added}
 use Rattle.corner.specs.Window.{gathered, innerBit, innerCell, pickedAt, statusAt}
 use Rattle.corner.proofs.WordLaws.{on-read}
 

@@ -1,5 +1,5 @@
 -- The cells that have a corner, one after another. Assumes nothing.
-use Prim.Native.Nat.{ℕ, zero, suc, _+_, _≤_, _<_}
+use Prim.Native.Nat.{ℕ, zero, suc, _+_, _^_, _≤_, _<_}
 use native.Mathlib.Nat.{le-refl}
 use native.Mathlib.Omega.{arith}
 use mathlib.Core.Path.{_≡_, refl, sym, ap, _∙_}
@@ -9,6 +9,7 @@ use lib.Dec.{eqb}
 use lib.ListN.{drop, getD, length, set}
 use lib.Seq.{drop-cons, drop-length}
 use borrow.Author.Tests.{eq-eqb, ne-eqb}
+use Rattle.model.specs.Cell.{W}
 use Rattle.model.specs.Corner.{Bits, anyBit, cornerCells, cornersAmong, number, statusOf}
 use Rattle.model.specs.Maps.{AscL}
 use Rattle.table.specs.Listed.{Listed}
@@ -63,7 +64,7 @@ pub corners-none : (C a b : List ℕ) → CornersTo C a a b b 0 0
 corners-none C a b = gathering-none (Told C) (length C) (λ j. numbered (cornerAt C j)) a b 0
 
 module _ (C a a′ b b′ : List ℕ) (n i s : ℕ) (more : i < length C) (ra : length C ≤ length a) (rb : length C ≤ length b)
-    (e : AscL 0 C → 4294967297 ≤ getD C i 0 → getD C i 0 < 18446744069414584319 → s ≡ number (statusOf C (getD C i 0)))
+    (e : AscL 0 C → W + 1 ≤ getD C i 0 → getD C i 0 + (W + 1) < 2 ^ 64 → s ≡ number (statusOf C (getD C i 0)))
     (w : CornersTo C a a′ b b′ n i) where
   status : Told C → s ≡ number (statusOf C (getD C i 0))
   status t =

@@ -1,4 +1,4 @@
--- What a turned cell adds to the changes, read off the words of its window. Assumes nothing.
+-- What a confirmed cell adds to the changes, read off the words of its window. Assumes nothing.
 use Prim.Native.Nat.{ℕ, zero, suc, _+_, _-_, _*_, _/_, _%_, _≤_, _<_}
 use native.Mathlib.Numerals.{add-one}
 use native.Mathlib.Omega.{arith}
@@ -17,11 +17,11 @@ use Rattle.table.specs.Listed.{Listed}
 use Rattle.table.specs.Tables.{All}
 use Rattle.table.proofs.AllLaws.{all-at}
 use Rattle.corner.specs.Changes.{Inner, numbered}
-use Rattle.corner.specs.Turns.{Added, Given, fresh, freshAt, freshOne, near}
+use Rattle.corner.specs.Added.{Added, Given, fresh, freshAt, freshOne, aroundAll}
 use Rattle.corner.specs.Window.{Sees, beside, differing, gathered, innerBit, innerCell, northeasts, northwests, on, pickedAt, southeasts, southwests}
 use Rattle.corner.proofs.AddedLaws.{added-listed, added-none, added-then}
-use Rattle.corner.proofs.MetLaws.{changes-gathered, near-facing}
-use Rattle.corner.proofs.WindowLaws.{beside-is, northeast-is, northwest-is, sees-before, sees-turned, southeast-is, southwest-is, status-is}
+use Rattle.corner.proofs.MetLaws.{changes-gathered, all-facing}
+use Rattle.corner.proofs.WindowLaws.{beside-is, northeast-is, northwest-is, sees-before, sees-toggled, southeast-is, southwest-is, status-is}
 use Rattle.corner.proofs.WordLaws.{on-or, on-without, on-xor}
 
 pub gathered-same : {A : Type 0} (f g : ℕ → List A) (n : ℕ) → ((i : ℕ) → i < n → f i ≡ g i) → gathered f n ≡ gathered g n
@@ -100,7 +100,7 @@ module _ (C K C′ : List ℕ) (i low n m : ℕ) (g : Given C K C′) (h : i < l
       differing (southwests n) (southwests now) (southeasts n) (southeasts now) (northwests n) (northwests now) (northeasts n) (northeasts now) (beside (m % 4096))
 
   after : Sees now C′ low
-  after = sees-turned n m low C K C′ (g .turned) s u
+  after = sees-toggled n m low C K C′ (g .toggled) s u
 
   -- one of the nine
   module _ (d : ℕ) (b : d < 9) where
@@ -113,12 +113,12 @@ module _ (C K C′ : List ℕ) (i low n m : ℕ) (g : Given C K C′) (h : i < l
     line : d % 3 < 3
     line = omega arith
 
-    met-bit : on (beside (m % 4096)) (innerBit d) ≡ has cell (near (take i K))
+    met-bit : on (beside (m % 4096)) (innerBit d) ≡ has cell (aroundAll (take i K))
     met-bit =
-        beside-is (m % 4096) low (take i K) (sees-before m low K i (g .turns) h e u) (d / 3) (d % 3) column line
-        ∙ sym (near-facing cell (take i K) (omega arith) (all-take Inner i K (g .inner)))
+        beside-is (m % 4096) low (take i K) (sees-before m low K i (g .confirmed) h e u) (d / 3) (d % 3) column line
+        ∙ sym (all-facing cell (take i K) (omega arith) (all-take Inner i K (g .inner)))
 
-    fresh-bit : on changed (innerBit d) ≡ not (has cell (near (take i K)) || sameBits (statusOf C cell) (statusOf C′ cell))
+    fresh-bit : on changed (innerBit d) ≡ not (has cell (aroundAll (take i K)) || sameBits (statusOf C cell) (statusOf C′ cell))
     unfolding sameBits statusOf
     fresh-bit =
         differing-is (southwests n) (southwests now) (southeasts n) (southeasts now) (northwests n) (northwests now) (northeasts n) (northeasts now) (beside (m % 4096)) (innerBit d)
@@ -134,9 +134,9 @@ module _ (C K C′ : List ℕ) (i low n m : ℕ) (g : Given C K C′) (h : i < l
           northeast-is now low C′ after (d / 3) (d % 3) column line,
         )
 
-    picked-is : pickedAt low changed (southwests now) (southeasts now) (northwests now) (northeasts now) d ≡ numbered (freshOne C C′ (near (take i K)) cell)
+    picked-is : pickedAt low changed (southwests now) (southeasts now) (northwests now) (northeasts now) d ≡ numbered (freshOne C C′ (aroundAll (take i K)) cell)
     unfolding freshOne
-    picked-is = rw (fresh-bit, status-is now low C′ after (d / 3) (d % 3) column line) (go (has cell (near (take i K)) || sameBits (statusOf C cell) (statusOf C′ cell)))
+    picked-is = rw (fresh-bit, status-is now low C′ after (d / 3) (d % 3) column line) (go (has cell (aroundAll (take i K)) || sameBits (statusOf C cell) (statusOf C′ cell)))
       where
         go : (t : Bool) → cond (not t) ((cell, number (statusOf C′ cell)) ∷ []) [] ≡ numbered (cond t [] ((cell, statusOf C′ cell) ∷ []))
         go true = refl
@@ -144,8 +144,8 @@ module _ (C K C′ : List ℕ) (i low n m : ℕ) (g : Given C K C′) (h : i < l
 
   nine-fresh : gathered (pickedAt low changed (southwests now) (southeasts now) (northwests now) (northeasts now)) 9 ≡ numbered (freshAt C C′ K i)
   nine-fresh =
-      gathered-same (pickedAt low changed (southwests now) (southeasts now) (northwests now) (northeasts now)) (λ d. numbered (freshOne C C′ (near (take i K)) (innerCell low d))) 9 picked-is
-      ∙ sym (ap numbered (around-nine C C′ (near (take i K)) low (getD K i 0) e) ∙ numbered-gathered (λ d. freshOne C C′ (near (take i K)) (innerCell low d)) 9)
+      gathered-same (pickedAt low changed (southwests now) (southeasts now) (northwests now) (northeasts now)) (λ d. numbered (freshOne C C′ (aroundAll (take i K)) (innerCell low d))) 9 picked-is
+      ∙ sym (ap numbered (around-nine C C′ (aroundAll (take i K)) low (getD K i 0) e) ∙ numbered-gathered (λ d. freshOne C C′ (aroundAll (take i K)) (innerCell low d)) 9)
 
   -- the same of the words as the code has them
   pub words-fresh : (sw₀ se₀ nw₀ ne₀ sw se nw ne met new : ℕ) → (sw₀ ≡ southwests n) × (se₀ ≡ southeasts n) × (nw₀ ≡ northwests n) × (ne₀ ≡ northeasts n)
@@ -159,7 +159,7 @@ inside-inner k h = (omega arith, omega arith)
 pub given-inner : (C K C′ : List ℕ) (i : ℕ) → Given C K C′ → i < length K → Inner (getD K i 0)
 given-inner C K C′ i g h = all-at Inner K i (g .inner) h
 
--- ---- after the first i of the turned cells
+-- ---- after the first i of the confirmed cells
 pub record Sofar (C K a a′ b b′ : List ℕ) (n i : ℕ) : Type 0 where
   pub few : i ≤ length K
   pub up : n ≤ 9 * i

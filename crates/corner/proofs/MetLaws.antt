@@ -1,4 +1,4 @@
--- The changes of a batch by a rule of each turned cell alone: a cell around it was met before exactly if an earlier turned cell is beside it. Assumes nothing.
+-- The changes of a batch by a rule of each confirmed cell alone: a cell around it was met before exactly if an earlier confirmed cell is beside it. Assumes nothing.
 use Prim.Native.Nat.{ℕ, zero, suc, _+_, _-_, _≤_, _<_}
 use native.Mathlib.Nat.{le-of-suc-le-suc, le-refl, not-suc-le-zero}
 use native.Mathlib.Omega.{arith}
@@ -17,7 +17,7 @@ use Rattle.model.proofs.MapLaws.{has-append}
 use Rattle.table.specs.Tables.{All}
 use Rattle.table.proofs.AllLaws.{all-at, ascL-all}
 use Rattle.corner.specs.Changes.{Inner}
-use Rattle.corner.specs.Turns.{fresh, freshAt, freshOne, near}
+use Rattle.corner.specs.Added.{fresh, freshAt, freshOne, aroundAll}
 use Rattle.corner.specs.Window.{gathered}
 use Rattle.corner.proofs.RowLaws.{has-above}
 
@@ -81,11 +81,11 @@ around-facing k d h n =
       same-eqb k (d + W + 1) (k - W - 1) d (λ e. omega arith) (λ e. omega arith),
     )
 
-pub near-facing : (k : ℕ) (K : List ℕ) → W + 1 ≤ k → All Inner K → has k (near K) ≡ anyOf (λ x. has x K) (facing k)
-unfolding near has
-near-facing k [] h n = refl
-near-facing k (d ∷ K) h n =
-    has-append k (around d) (near K) ∙ rw (around-facing k d h (n .0), near-facing k K h (n .1)) (sym (any-or (λ x. eqb x d) (λ x. has x K) (facing k)))
+pub all-facing : (k : ℕ) (K : List ℕ) → W + 1 ≤ k → All Inner K → has k (aroundAll K) ≡ anyOf (λ x. has x K) (facing k)
+unfolding aroundAll has
+all-facing k [] h n = refl
+all-facing k (d ∷ K) h n =
+    has-append k (around d) (aroundAll K) ∙ rw (around-facing k d h (n .0), all-facing k K h (n .1)) (sym (any-or (λ x. eqb x d) (λ x. has x K) (facing k)))
 
 -- ---- the changes, cell by cell
 onto : List ℕ → List ℕ → List ℕ
@@ -109,19 +109,19 @@ all-each : {P : ℕ → Type 0} (l : List ℕ) → ((x : ℕ) → P x) → All P
 all-each [] f = tt
 all-each (x ∷ l) f = (f x, all-each l f)
 
-near-append : (l m : List ℕ) → near (l ++ m) ≡ near l ++ near m
-unfolding near
-near-append [] m = refl
-near-append (x ∷ l) m = ap (λ (r : List ℕ). around x ++ r) (near-append l m) ∙ sym (append-assoc (around x) (near l) (near m))
+all-append : (l m : List ℕ) → aroundAll (l ++ m) ≡ aroundAll l ++ aroundAll m
+unfolding aroundAll
+all-append [] m = refl
+all-append (x ∷ l) m = ap (λ (r : List ℕ). around x ++ r) (all-append l m) ∙ sym (append-assoc (around x) (aroundAll l) (aroundAll m))
 
-has-near-more : (k : ℕ) (done : List ℕ) (e : ℕ) → has k (near (done ++ e ∷ [])) ≡ has k (around e) || has k (near done)
-unfolding near
-has-near-more k done e = rw (near-append done (e ∷ []), has-append k (near done) (near (e ∷ [])), append-nil (around e)) (or-comm (has k (near done)) (has k (around e)))
+has-all-more : (k : ℕ) (done : List ℕ) (e : ℕ) → has k (aroundAll (done ++ e ∷ [])) ≡ has k (around e) || has k (aroundAll done)
+unfolding aroundAll
+has-all-more k done e = rw (all-append done (e ∷ []), has-append k (aroundAll done) (aroundAll (e ∷ [])), append-nil (around e)) (or-comm (has k (aroundAll done)) (has k (around e)))
 
-met-near : (ch : Batch) → met ch ≡ near (keys ch)
-unfolding met near keys
-met-near [] = refl
-met-near (e ∷ ch) = ap (λ (r : List ℕ). around (e .0) ++ r) (met-near ch)
+met-all : (ch : Batch) → met ch ≡ aroundAll (keys ch)
+unfolding met aroundAll keys
+met-all [] = refl
+met-all (e ∷ ch) = ap (λ (r : List ℕ). around (e .0) ++ r) (met-all ch)
 
 module _ (C C′ : List ℕ) where
   -- cells that ascend are met once among themselves
@@ -144,17 +144,17 @@ module _ (C C′ : List ℕ) where
   -- the changes around the cells K, those around `done` being made
   each : List ℕ → List ℕ → List (ℕ × Bits)
   each done [] = []
-  each done (e ∷ K) = fresh C C′ (near done) (around e) ++ each (done ++ e ∷ []) K
+  each done (e ∷ K) = fresh C C′ (aroundAll done) (around e) ++ each (done ++ e ∷ []) K
 
-  altered-each : (done checked K : List ℕ) → ((k : ℕ) → has k checked ≡ has k (near done)) → All Inner K → altered C C′ checked (near K) ≡ each done K
-  unfolding near each altered
+  altered-each : (done checked K : List ℕ) → ((k : ℕ) → has k checked ≡ has k (aroundAll done)) → All Inner K → altered C C′ checked (aroundAll K) ≡ each done K
+  unfolding aroundAll each altered
   altered-each done checked [] s n = refl
   altered-each done checked (e ∷ K) s n =
-      altered-fresh 0 (near done) checked (around e) (near K) (around-ascends e (n .0)) (all-each (around e) s)
-      ∙ ap (λ (r : List (ℕ × Bits)). fresh C C′ (near done) (around e) ++ r) (altered-each (done ++ e ∷ []) (onto (around e) checked) K more (n .1))
+      altered-fresh 0 (aroundAll done) checked (around e) (aroundAll K) (around-ascends e (n .0)) (all-each (around e) s)
+      ∙ ap (λ (r : List (ℕ × Bits)). fresh C C′ (aroundAll done) (around e) ++ r) (altered-each (done ++ e ∷ []) (onto (around e) checked) K more (n .1))
     where
-      more : (k : ℕ) → has k (onto (around e) checked) ≡ has k (near (done ++ e ∷ []))
-      more k = has-onto k (around e) checked ∙ rw (s k) (sym (has-near-more k done e))
+      more : (k : ℕ) → has k (onto (around e) checked) ≡ has k (aroundAll (done ++ e ∷ []))
+      more k = has-onto k (around e) checked ∙ rw (s k) (sym (has-all-more k done e))
 
   each-gathered : (K : List ℕ) (i : ℕ) → i ≤ length K → each [] K ≡ gathered (freshAt C C′ K) i ++ each (take i K) (drop i K)
   unfolding gathered each
@@ -163,8 +163,8 @@ module _ (C C′ : List ℕ) where
       each-gathered K i (omega arith) ∙ rw (drop-cons K i 0 h, take-suc K i 0 h, append-assoc)
 
   pub changes-gathered : (ch : Batch) → All Inner (keys ch) → cornerChanges C C′ ch ≡ gathered (freshAt C C′ (keys ch)) (length (keys ch))
-  unfolding cornerChanges has near each
+  unfolding cornerChanges has aroundAll each
   changes-gathered ch n =
-      ap (altered C C′ []) (met-near ch) ∙ altered-each [] [] (keys ch) (λ k. refl) n
+      ap (altered C C′ []) (met-all ch) ∙ altered-each [] [] (keys ch) (λ k. refl) n
       ∙ each-gathered (keys ch) (length (keys ch)) (le-refl (length (keys ch)))
       ∙ rw (drop-length (keys ch)) (append-nil (gathered (freshAt C C′ (keys ch)) (length (keys ch))))

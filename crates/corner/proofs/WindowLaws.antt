@@ -11,7 +11,7 @@ use Rattle.ieee.proofs.Tools.{lt-or-ge}
 use Rattle.model.specs.Cell.{W, SW, SE, NW, NE}
 use Rattle.model.specs.Corner.{corner, number, statusOf}
 use Rattle.model.specs.Maps.{AscL, has}
-use Rattle.corner.specs.Changes.{Turned}
+use Rattle.corner.specs.Changes.{Toggled}
 use Rattle.corner.specs.Window.{Sees, beside, northeasts, northwests, on, southeasts, southwests, stacked, statusAt, without}
 use Rattle.corner.proofs.MetLaws.{anyOf, facing, before-has, before-none}
 use Rattle.corner.proofs.WordLaws.{on-beyond, on-down, on-high, on-low, on-mod, on-or, on-up, on-without, on-xor, on-zero}
@@ -64,10 +64,10 @@ sees-none (x ∷ t) low e i j hi hj = absurd (omega arith)
 -- ---- windows of other sets of cells
 
 -- the cells after the batch
-pub sees-turned : (n m low : ℕ) (C K C′ : List ℕ) → Turned C K C′ → Sees n C low → Sees m K low → Sees (bitXor n m) C′ low
-sees-turned n m low C K C′ t s u i j hi hj = on-xor n m (5 * i + j) ∙ rw (s i j hi hj, u i j hi hj) (sym (t (low + (i * W + j))))
+pub sees-toggled : (n m low : ℕ) (C K C′ : List ℕ) → Toggled C K C′ → Sees n C low → Sees m K low → Sees (bitXor n m) C′ low
+sees-toggled n m low C K C′ t s u i j hi hj = on-xor n m (5 * i + j) ∙ rw (s i j hi hj, u i j hi hj) (sym (t (low + (i * W + j))))
 
--- the turned cells before the one in the middle: the lower half of the bits
+-- the confirmed cells before the one in the middle: the lower half of the bits
 pub sees-before : (m low : ℕ) (K : List ℕ) (i : ℕ) → AscL 0 K → i < length K → getD K i 0 ≡ low + (2 * W + 2) → Sees m K low → Sees (m % 4096) (take i K) low
 sees-before m low K i a h e s x y hx hy = ⊎-elim under over (lt-or-ge (5 * x + y) 12)
   where

@@ -10,9 +10,9 @@ use Rattle.model.specs.Maps.{AscL, has}
 use Rattle.table.specs.Listed.{Listed}
 use Rattle.table.specs.Tables.{All}
 
--- C′ is C with the cells of K turned over
-abbrev pub Turned : List ℕ → List ℕ → List ℕ → Type 0
-Turned C K C′ = (k : ℕ) → has k C′ ≡ not (Bool·beq (has k C) (has k K))
+-- C′ is C with the cells of K toggled: occupied where they were free, free where they were occupied
+abbrev pub Toggled : List ℕ → List ℕ → List ℕ → Type 0
+Toggled C K C′ = (k : ℕ) → has k C′ ≡ not (Bool·beq (has k C) (has k K))
 
 -- two cells further in every direction are keys too
 abbrev pub Inner : ℕ → Type 0

@@ -1,6 +1,6 @@
 -- What the contracts of crate `corner` cite.
+pub mod Added
 pub mod Changes
 pub mod Corners
-pub mod Turns
 pub mod Weights
 pub mod Window

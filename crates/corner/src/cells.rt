@@ -9,8 +9,10 @@ ghost use Rattle.corner.specs.Changes.{Cornered};
 // there is no room for as many as there are cells.
 pub fn corner_cells(cells: &[u64], out: &mut [u64], statuses: &mut [u8]) -> usize
     ensures { λ r. ⌜ Cornered (now (cells .entry)) (now (out .entry)) (now (out .exit)) (now (statuses .entry)) (now (statuses .exit)) r
-        × (length (now (out .entry)) < length (now (cells .entry)) → Unlisted (now (out .entry)) (now (out .exit)) (now (statuses .entry)) (now (statuses .exit)) r)
-        × (length (now (statuses .entry)) < length (now (cells .entry)) → Unlisted (now (out .entry)) (now (out .exit)) (now (statuses .entry)) (now (statuses .exit)) r)
+        × (length (now (out .entry)) < length (now (cells .entry))
+        → Unlisted (now (out .entry)) (now (out .exit)) (now (statuses .entry)) (now (statuses .exit)) r)
+        × (length (now (statuses .entry)) < length (now (cells .entry))
+        → Unlisted (now (out .entry)) (now (out .exit)) (now (statuses .entry)) (now (statuses .exit)) r)
         × (r ≤ length (now (cells .entry))) ⌝ }
 {
     if out.len() < cells.len() {

@@ -2,5 +2,5 @@
 pub mod bits;
 pub mod cells;
 pub mod changes;
-pub mod status;
-pub mod window;
+mod status;
+mod window;

@@ -1,4 +1,8 @@
 // The 5 by 5 cells around a cell as a word: bit 5 * i + j is the cell i columns and j rows from the lowest key on.
+use sizes::COLUMN;
+use sizes::FOUR_COLUMNS;
+use sizes::THREE_COLUMNS;
+use sizes::TWO_COLUMNS;
 use table::place::stands_at;
 use table::places::places_of;
 ghost use mathlib.Core.Path.{_≡_};
@@ -46,10 +50,10 @@ pub(crate) fn window(t: &[u64], low: u64) -> u64
     }
     let f = places_of(t, low);
     let a = five(t, f.a, low);
-    let b = five(t, f.b, low + 4294967296);
-    let c = five(t, f.c, low + 8589934592);
-    let d = five(t, f.d, low + 12884901888);
-    let e = five(t, f.e, low + 17179869184);
+    let b = five(t, f.b, low + COLUMN);
+    let c = five(t, f.c, low + TWO_COLUMNS);
+    let d = five(t, f.d, low + THREE_COLUMNS);
+    let e = five(t, f.e, low + FOUR_COLUMNS);
     a + 32 * (b + 32 * (c + 32 * (d + 32 * e)))
 }
 
@@ -71,7 +75,7 @@ pub(crate) fn corners_of(n: u64) -> Corners
 }
 
 // The cells of a window, and those beside them.
-pub(crate) fn near(n: u64) -> u64
+pub(crate) fn beside(n: u64) -> u64
     requires { ⌜ n < 2 ^ 25 ⌝ }
     ensures { λ r. ⌜ r ≡ beside n ⌝ }
 {

@@ -18,7 +18,8 @@ pub extern "C" fn runcedau_all_points(
     bits: &mut [u8],
     blocks: &mut [u64],
 ) -> Count
-    ensures { λ r. ⌜ AllPoints map (now (points .entry)) (now (statuses .entry)) (now (blockers .entry)) (now (out .entry)) (now (bits .entry)) (now (blocks .entry)) (now (out .exit)) (now (bits .exit)) (now (blocks .exit)) r ⌝ }
+    ensures { λ r. ⌜ AllPoints map (now (points .entry)) (now (statuses .entry)) (now (blockers .entry)) (now (out .entry)) (now (bits .entry))
+        (now (blocks .entry)) (now (out .exit)) (now (bits .exit)) (now (blocks .exit)) r ⌝ }
 {
     all_points(map, points, statuses, blockers, out, bits, blocks)
 }
@@ -46,7 +47,8 @@ pub extern "C" fn runcedau_all_pairs(
     greater: &mut [u64],
     blocks: &mut [u64],
 ) -> Count
-    ensures { λ r. ⌜ AllPairs map (now (points .entry)) (now (pairs .entry)) (now (lesser .entry)) (now (greater .entry)) (now (blocks .entry)) (now (lesser .exit)) (now (greater .exit)) (now (blocks .exit)) r ⌝ }
+    ensures { λ r. ⌜ AllPairs map (now (points .entry)) (now (pairs .entry)) (now (lesser .entry)) (now (greater .entry)) (now (blocks .entry))
+        (now (lesser .exit)) (now (greater .exit)) (now (blocks .exit)) r ⌝ }
 {
     all_pairs(map, points, pairs, lesser, greater, blocks)
 }
@@ -61,7 +63,8 @@ pub extern "C" fn runcedau_open_pairs(
     lesser: &mut [u64],
     greater: &mut [u64],
 ) -> Count
-    ensures { λ r. ⌜ OpenPairs map (now (points .entry)) (now (blockers .entry)) (now (pairs .entry)) (now (lesser .entry)) (now (greater .entry)) (now (lesser .exit)) (now (greater .exit)) r ⌝ }
+    ensures { λ r. ⌜ OpenPairs map (now (points .entry)) (now (blockers .entry)) (now (pairs .entry)) (now (lesser .entry)) (now (greater .entry))
+        (now (lesser .exit)) (now (greater .exit)) r ⌝ }
 {
     open_pairs(map, points, blockers, pairs, lesser, greater)
 }

@@ -9,7 +9,7 @@ use lib.IntN.{ℤ}
 use lib.ListN.{length, take}
 use borrow.Author.Tests.{lt-ltb, le-ltb}
 use Rattle.model.specs.Batch.{cellsAfter}
-use Rattle.model.specs.Limits.{maxCells}
+use Rattle.model.specs.Limits.{maxCells, needConfirmed, needCorners}
 use Rattle.model.specs.Map.{toBatch}
 use Rattle.model.specs.Maps.{AscL}
 use Rattle.model.specs.Refusal.{unsorted, outside}
@@ -71,7 +71,7 @@ module _ (floor : Floor) (b : List ℤ) (t t′ : Lent) (r : Changed) where
       }
 
       pub accepted : k ≤ maxCells → r .refusal ≡ 0
-          → ((C : List ℕ) → Applying (t .cells) (floor .cells) C (entries b) (length (t .corners)) (length (t .statuses)) → Done floor C (entries b) t t′ r) → Changing floor b t t′ r
+          → ((C : List ℕ) → Applying (t .cells) (floor .cells) C (entries b) (length (t .corners)) (length (t .altered)) → Done floor C (entries b) t t′ r) → Changing floor b t t′ r
       accepted g z d = record {
         input = λ n y. absurd (suc-ne-zero _ (sym y ∙ sym e));
         refusal = λ C h. z ∙ sym (passed .later (ltb maxCells (length (after C))) ∙ ap (λ (v : Bool). cond v 6 0) (le-ltb maxCells (length (after C)) (fits C h)));
@@ -83,12 +83,12 @@ module _ (floor : Floor) (b : List ℤ) (t t′ : Lent) (r : Changed) where
           bounds = passed .bounds;
           room = fits C h;
           corners = long .3;
-          statuses = long .4;
+          altered = long .4;
         });
       }
         where
           fits : (C : List ℕ) → Holds (t .cells) (floor .cells) C → length (after C) ≤ maxCells
           fits C h = subst (λ (n : ℕ). n ≤ maxCells) (counted C h) g
 
-          long : (1024 ≤ length (t .cells)) × (256 ≤ length (t .confirmed)) × (256 ≤ length (t .full)) × (2304 ≤ length (t .corners)) × (2304 ≤ length (t .statuses))
-          long = long-enough (length (t .cells)) (length (t .confirmed)) (length (t .full)) (length (t .corners)) (length (t .statuses)) (passed .long)
+          long : (maxCells ≤ length (t .cells)) × (needConfirmed ≤ length (t .confirmed)) × (needConfirmed ≤ length (t .full)) × (needCorners ≤ length (t .corners)) × (needCorners ≤ length (t .altered))
+          long = long-enough (length (t .cells)) (length (t .confirmed)) (length (t .full)) (length (t .corners)) (length (t .altered)) (passed .long)

@@ -15,7 +15,7 @@ use Rattle.limits.specs.Floor.{Holds}
 use Rattle.grid.specs.declared.change.Changed.{Changed}
 use Rattle.limits.specs.declared.floor.Floor.{Floor}
 
-same-tables : (t u : Lent) → t .cells ≡ u .cells → t .confirmed ≡ u .confirmed → t .full ≡ u .full → t .corners ≡ u .corners → t .statuses ≡ u .statuses → t ≡ u
+same-tables : (t u : Lent) → t .cells ≡ u .cells → t .confirmed ≡ u .confirmed → t .full ≡ u .full → t .corners ≡ u .corners → t .altered ≡ u .altered → t ≡ u
 same-tables t u a b c d e = rw (a, b, c, d, e) refl
 
 module _ (floor : Floor) (b : List ℤ) (t t₁ t₂ : Lent) (r₁ r₂ : Changed) where

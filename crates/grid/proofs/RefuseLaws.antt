@@ -10,48 +10,49 @@ use lib.ListN.{length}
 use lib.Ieee.{Float}
 use borrow.Author.Tests.{lt-ltb, le-ltb, ltb-false}
 use Rattle.model.proofs.RunLaws.{or-parts}
+use Rattle.model.specs.Limits.{maxBatch, maxCells, needConfirmed, needCorners}
 use Rattle.model.specs.Refusal.{firstOf, verdict, short, badSize, unsorted, outside}
 use Rattle.limits.specs.Batches.{disorder, entries, ragged, refuseBatch}
 use Rattle.grid.specs.Change.{refuseChange, shortOf}
 
 -- ---- 9: the first table that is short
 module _ (a b c d e : ℕ) where
-  pub short-cells : a < 1024 → true ≡ shortOf a b c d e
+  pub short-cells : a < maxCells → true ≡ shortOf a b c d e
   unfolding shortOf short
-  short-cells h = rw (lt-ltb a 1024 h) refl
+  short-cells h = rw (lt-ltb a maxCells h) refl
 
-  module _ (ha : 1024 ≤ a) where
-    pub short-confirmed : b < 256 → true ≡ shortOf a b c d e
+  module _ (ha : maxCells ≤ a) where
+    pub short-confirmed : b < needConfirmed → true ≡ shortOf a b c d e
     unfolding shortOf short
-    short-confirmed h = rw (le-ltb a 1024 ha, lt-ltb b 256 h) refl
+    short-confirmed h = rw (le-ltb a maxCells ha, lt-ltb b needConfirmed h) refl
 
-    module _ (hb : 256 ≤ b) where
-      pub short-full : c < 256 → true ≡ shortOf a b c d e
+    module _ (hb : needConfirmed ≤ b) where
+      pub short-full : c < needConfirmed → true ≡ shortOf a b c d e
       unfolding shortOf short
-      short-full h = rw (le-ltb a 1024 ha, le-ltb b 256 hb, lt-ltb c 256 h) refl
+      short-full h = rw (le-ltb a maxCells ha, le-ltb b needConfirmed hb, lt-ltb c needConfirmed h) refl
 
-      module _ (hc : 256 ≤ c) where
-        pub short-corners : d < 2304 → true ≡ shortOf a b c d e
+      module _ (hc : needConfirmed ≤ c) where
+        pub short-corners : d < needCorners → true ≡ shortOf a b c d e
         unfolding shortOf short
-        short-corners h = rw (le-ltb a 1024 ha, le-ltb b 256 hb, le-ltb c 256 hc, lt-ltb d 2304 h) refl
+        short-corners h = rw (le-ltb a maxCells ha, le-ltb b needConfirmed hb, le-ltb c needConfirmed hc, lt-ltb d needCorners h) refl
 
-        pub short-statuses : 2304 ≤ d → ltb e 2304 ≡ shortOf a b c d e
+        pub short-altered : needCorners ≤ d → ltb e needCorners ≡ shortOf a b c d e
         unfolding shortOf short
-        short-statuses h = rw (le-ltb a 1024 ha, le-ltb b 256 hb, le-ltb c 256 hc, le-ltb d 2304 h) (sym (or-false (ltb e 2304)))
+        short-altered h = rw (le-ltb a maxCells ha, le-ltb b needConfirmed hb, le-ltb c needConfirmed hc, le-ltb d needCorners h) (sym (or-false (ltb e needCorners)))
 
   -- where none is short
-  pub long-enough : shortOf a b c d e ≡ false → (1024 ≤ a) × (256 ≤ b) × (256 ≤ c) × (2304 ≤ d) × (2304 ≤ e)
+  pub long-enough : shortOf a b c d e ≡ false → (maxCells ≤ a) × (needConfirmed ≤ b) × (needConfirmed ≤ c) × (needCorners ≤ d) × (needCorners ≤ e)
   unfolding shortOf short
-  long-enough z = go (ltb a 1024) (ltb b 256) (ltb c 256) (ltb d 2304) (ltb e 2304) refl refl refl refl refl z
+  long-enough z = go (ltb a maxCells) (ltb b needConfirmed) (ltb c needConfirmed) (ltb d needCorners) (ltb e needCorners) refl refl refl refl refl z
     where
-      go : (u v w x y : Bool) → ltb a 1024 ≡ u → ltb b 256 ≡ v → ltb c 256 ≡ w → ltb d 2304 ≡ x → ltb e 2304 ≡ y → (u || (v || (w || (x || (y || false))))) ≡ false
-          → (1024 ≤ a) × (256 ≤ b) × (256 ≤ c) × (2304 ≤ d) × (2304 ≤ e)
+      go : (u v w x y : Bool) → ltb a maxCells ≡ u → ltb b needConfirmed ≡ v → ltb c needConfirmed ≡ w → ltb d needCorners ≡ x → ltb e needCorners ≡ y → (u || (v || (w || (x || (y || false))))) ≡ false
+          → (maxCells ≤ a) × (needConfirmed ≤ b) × (needConfirmed ≤ c) × (needCorners ≤ d) × (needCorners ≤ e)
       go true v w x y p q r s t z = absurd (true≢false z)
       go false true w x y p q r s t z = absurd (true≢false z)
       go false false true x y p q r s t z = absurd (true≢false z)
       go false false false true y p q r s t z = absurd (true≢false z)
       go false false false false true p q r s t z = absurd (true≢false z)
-      go false false false false false p q r s t z = (ltb-false a 1024 p, ltb-false b 256 q, ltb-false c 256 r, ltb-false d 2304 s, ltb-false e 2304 t)
+      go false false false false false p q r s t z = (ltb-false a maxCells p, ltb-false b needConfirmed q, ltb-false c needConfirmed r, ltb-false d needCorners s, ltb-false e needCorners t)
 
 -- ---- all of them, in turn
 abbrev batchThen : Bool → Bool → Bool → ℕ → ℕ
@@ -59,7 +60,7 @@ batchThen x y z n = cond x 3 (cond y 4 (cond z 5 n))
 
 module _ (s : Bool) (c : Float) (l : List ℤ) (w : Bool) where
   abbrev rest : ℕ → ℕ
-  rest = batchThen (ltb 256 (length (entries l))) (disorder l) (outside (entries l))
+  rest = batchThen (ltb maxBatch (length (entries l))) (disorder l) (outside (entries l))
 
   in-turn : refuseChange s c l w ≡ cond s 9 (cond (badSize c) 1 (rest (cond w 6 0)))
   unfolding refuseChange verdict firstOf
@@ -81,7 +82,7 @@ module _ (s : Bool) (c : Float) (l : List ℤ) (w : Bool) where
       known = in-turn ∙ rw (e, f) refl
 
       pub change-batch : (n : ℕ) → n ≡ refuseBatch l → (n ≡ 0 → ⊥) → n ≡ refuseChange s c l w
-      change-batch n g some = g ∙ batch-turn ∙ go (ltb 256 (length (entries l))) (disorder l) (outside (entries l)) (λ z. some (g ∙ batch-turn ∙ z)) ∙ sym known
+      change-batch n g some = g ∙ batch-turn ∙ go (ltb maxBatch (length (entries l))) (disorder l) (outside (entries l)) (λ z. some (g ∙ batch-turn ∙ z)) ∙ sym known
         where
           go : (x y z : Bool) → (batchThen x y z 0 ≡ 0 → ⊥) → batchThen x y z 0 ≡ batchThen x y z (cond w 6 0)
           go true y z h = refl
@@ -91,7 +92,7 @@ module _ (s : Bool) (c : Float) (l : List ℤ) (w : Bool) where
 
       -- 6 where there are too many cells, else 0
       pub change-last : (n : ℕ) → n ≡ refuseBatch l → n ≡ 0 → cond w 6 0 ≡ refuseChange s c l w
-      change-last n g z = go (ltb 256 (length (entries l))) (disorder l) (outside (entries l)) (sym batch-turn ∙ sym g ∙ z) ∙ sym known
+      change-last n g z = go (ltb maxBatch (length (entries l))) (disorder l) (outside (entries l)) (sym batch-turn ∙ sym g ∙ z) ∙ sym known
         where
           go : (x y v : Bool) → batchThen x y v 0 ≡ 0 → _≡_ {A = ℕ} (cond w 6 0) (batchThen x y v (cond w 6 0))
           go true y v h = absurd (suc-ne-zero _ h)
@@ -99,30 +100,30 @@ module _ (s : Bool) (c : Float) (l : List ℤ) (w : Bool) where
           go false false true h = absurd (suc-ne-zero _ h)
           go false false false h = refl
 
--- what is not refused by the input alone: nothing is due but, with another number of cells, 6
+-- what is not refused by the input alone: nothing applies but, with another number of cells, 6
 pub record Passed (s : Bool) (c : Float) (l : List ℤ) (w : Bool) : Type 0 where
   pub long : s ≡ false
-  pub few : length (entries l) ≤ 256
+  pub few : length (entries l) ≤ maxBatch
   pub order : unsorted (entries l) ≡ false
   pub bounds : outside (entries l) ≡ false
   pub crowd : w ≡ false
   pub later : (v : Bool) → refuseChange s c l v ≡ cond v 6 0
 
 pub change-passed : (s : Bool) (c : Float) (l : List ℤ) (w : Bool) → refuseChange s c l w ≡ 0 → Passed s c l w
-change-passed s c l w z = go s (badSize c) (ltb 256 (length (entries l))) (disorder l) (outside (entries l)) w refl refl refl refl refl refl (sym (in-turn s c l w) ∙ z)
+change-passed s c l w z = go s (badSize c) (ltb maxBatch (length (entries l))) (disorder l) (outside (entries l)) w refl refl refl refl refl refl (sym (in-turn s c l w) ∙ z)
   where
-    go : (a b x y v u : Bool) → s ≡ a → badSize c ≡ b → ltb 256 (length (entries l)) ≡ x → disorder l ≡ y → outside (entries l) ≡ v → w ≡ u → _≡_ {A = ℕ} (cond a 9 (cond b 1 (batchThen x y v (cond u 6 0)))) 0 → Passed s c l w
+    go : (a b x y v u : Bool) → s ≡ a → badSize c ≡ b → ltb maxBatch (length (entries l)) ≡ x → disorder l ≡ y → outside (entries l) ≡ v → w ≡ u → _≡_ {A = ℕ} (cond a 9 (cond b 1 (batchThen x y v (cond u 6 0)))) 0 → Passed s c l w
     go true b x y v u p q r o t i h = absurd (suc-ne-zero _ h)
     go false true x y v u p q r o t i h = absurd (suc-ne-zero _ h)
     go false false true y v u p q r o t i h = absurd (suc-ne-zero _ h)
     go false false false true v u p q r o t i h = absurd (suc-ne-zero _ h)
     go false false false false true u p q r o t i h = absurd (suc-ne-zero _ h)
     go false false false false false true p q r o t i h = absurd (suc-ne-zero _ h)
-    go false false false false false false p q r o t i h = record { long = p; few = ltb-false 256 (length (entries l)) r; order = or-parts (ragged l) (unsorted (entries l)) o .1; bounds = t; crowd = i; later = λ n. in-turn s c l n ∙ rw (p, q, r, o, t) refl }
+    go false false false false false false p q r o t i h = record { long = p; few = ltb-false maxBatch (length (entries l)) r; order = or-parts (ragged l) (unsorted (entries l)) o .1; bounds = t; crowd = i; later = λ n. in-turn s c l n ∙ rw (p, q, r, o, t) refl }
 
--- a refusal that is due before the cells are counted is due whatever they come to
+-- a refusal that applies before the cells are counted applies however many there are
 pub change-early : (s : Bool) (c : Float) (l : List ℤ) (v : Bool) → (refuseChange s c l false ≡ 0 → ⊥) → refuseChange s c l v ≡ refuseChange s c l false
-change-early s c l v some = in-turn s c l v ∙ go s (badSize c) (ltb 256 (length (entries l))) (disorder l) (outside (entries l)) (λ z. some (in-turn s c l false ∙ z)) ∙ sym (in-turn s c l false)
+change-early s c l v some = in-turn s c l v ∙ go s (badSize c) (ltb maxBatch (length (entries l))) (disorder l) (outside (entries l)) (λ z. some (in-turn s c l false ∙ z)) ∙ sym (in-turn s c l false)
   where
     go : (a b x y u : Bool) → (_≡_ {A = ℕ} (cond a 9 (cond b 1 (batchThen x y u 0))) 0 → ⊥) → _≡_ {A = ℕ} (cond a 9 (cond b 1 (batchThen x y u (cond v 6 0)))) (cond a 9 (cond b 1 (batchThen x y u 0)))
     go true b x y u h = refl

@@ -27,15 +27,18 @@ pub record Lent : Type 0 where
   pub confirmed : List ℕ
   pub full : List ℕ
   pub corners : List ℕ
-  pub statuses : List ℕ
+  pub altered : List ℕ
+
+abbrev pub lentOf : List ℕ → List ℕ → List ℕ → List ℕ → List ℕ → Lent
+lentOf cells confirmed full corners altered = record { cells = cells; confirmed = confirmed; full = full; corners = corners; altered = altered }
 
 -- each length with its need
 unfoldable pub shortOf : ℕ → ℕ → ℕ → ℕ → ℕ → Bool
-shortOf cells confirmed full corners statuses =
-    short ((cells, maxCells) ∷ (confirmed, needConfirmed) ∷ (full, needConfirmed) ∷ (corners, needCorners) ∷ (statuses, needCorners) ∷ [])
+shortOf cells confirmed full corners altered =
+    short ((cells, maxCells) ∷ (confirmed, needConfirmed) ∷ (full, needConfirmed) ∷ (corners, needCorners) ∷ (altered, needCorners) ∷ [])
 
 abbrev pub shortFor : Lent → Bool
-shortFor t = shortOf (length (t .cells)) (length (t .confirmed)) (length (t .full)) (length (t .corners)) (length (t .statuses))
+shortFor t = shortOf (length (t .cells)) (length (t .confirmed)) (length (t .full)) (length (t .corners)) (length (t .altered))
 
 -- the model's refusals of a batch (`judge`), for a floor of which no layer is asked: whether a table is short, the cell size, the batch as it is handed in, whether there are too many cells
 unfoldable pub refuseChange : Bool → Float → List ℤ → Bool → ℕ
@@ -67,7 +70,7 @@ pub record Done (floor : Floor) (C : List ℕ) (l : List Entry) (t t′ : Lent) 
   pub cells : t′ .cells ≡ pad maxCells (cellsAfter (toBatch l) C) ++ drop maxCells (t .cells)
   pub holds : Holds (t′ .cells) (length (cellsAfter (toBatch l) C)) (cellsAfter (toBatch l) C)
   pub changes : Listed (flags (confirmed (toBatch l) C)) (t .confirmed) (t′ .confirmed) (t .full) (t′ .full) (r .confirmed)
-  pub altered : Listed (numbered (cornerChanges C (cellsAfter (toBatch l) C) (confirmed (toBatch l) C))) (t .corners) (t′ .corners) (t .statuses) (t′ .statuses) (r .corners)
+  pub altered : Listed (numbered (cornerChanges C (cellsAfter (toBatch l) C) (confirmed (toBatch l) C))) (t .corners) (t′ .corners) (t .altered) (t′ .altered) (r .corners)
 
 -- what is known once nothing refuses the entries l: the cells C, and room for what is listed
 pub record Applying (t : List ℕ) (n : ℕ) (C : List ℕ) (l : List Entry) (c s : ℕ) : Type 0 where
@@ -77,7 +80,7 @@ pub record Applying (t : List ℕ) (n : ℕ) (C : List ℕ) (l : List Entry) (c 
   pub bounds : outside l ≡ false
   pub room : length (cellsAfter (toBatch l) C) ≤ maxCells
   pub corners : needCorners ≤ c
-  pub statuses : needCorners ≤ s
+  pub altered : needCorners ≤ s
 
 -- ---- the call. A floor whose table holds no cells so (no call gives one) may only be refused, or changed in a way that is not promised
 pub record Changing (floor : Floor) (b : List ℤ) (t t′ : Lent) (r : Changed) : Type 0 where

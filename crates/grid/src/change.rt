@@ -1,4 +1,4 @@
-// A batch on a floor, whole: judged first, then committed. A refusal alters nothing.
+// A batch on a floor, whole: judged first, then committed. A refused call leaves every table as it was.
 use batches::batch::commit;
 use batches::batch::confirm;
 use batches::batch::count_after;
@@ -6,6 +6,9 @@ use corner::changes::corner_changes;
 use limits::floor::Floor;
 use limits::judge::bad_size;
 use limits::judge::refuse_batch;
+use sizes::BATCH;
+use sizes::CELLS;
+use sizes::CORNERS;
 ghost use mathlib.Core.List.{List};
 ghost use mathlib.Core.Path.{_≡_};
 ghost use Prim.Native.Nat.{ℕ, _≤_};
@@ -13,9 +16,9 @@ ghost use lib.Dec.{ltb};
 ghost use lib.ListN.{length};
 ghost use Rattle.model.specs.Limits.{maxCells};
 ghost use Rattle.limits.specs.Batches.{entries};
-ghost use Rattle.grid.specs.Change.{Applying, Changing, Done, refuseChange, refusedWith, shortOf};
+ghost use Rattle.grid.specs.Change.{Applying, Changing, Done, lentOf, refuseChange, refusedWith, shortOf};
 
-// 0 with how many changes were confirmed, how many corners altered, and the floor afterwards; or the refusal's
+// 0 with how many changes were confirmed, how many corners changed, and the floor afterwards; or the refusal's
 // number, and all else zero.
 pub struct Changed {
     pub refusal: u8,
@@ -39,22 +42,22 @@ fn refused(number: u8) -> Changed
 }
 
 // 9: whether a lent table is short of its need.
-fn is_short(cells: usize, confirmed: usize, full: usize, corners: usize, statuses: usize) -> bool
-    ensures { λ r. ⌜ r ≡ shortOf cells confirmed full corners statuses ⌝ }
+fn is_short(cells: usize, confirmed: usize, full: usize, corners: usize, altered: usize) -> bool
+    ensures { λ r. ⌜ r ≡ shortOf cells confirmed full corners altered ⌝ }
 {
-    if cells < 1024 {
+    if cells < CELLS {
         return true;
     }
-    if confirmed < 256 {
+    if confirmed < BATCH {
         return true;
     }
-    if full < 256 {
+    if full < BATCH {
         return true;
     }
-    if corners < 2304 {
+    if corners < CORNERS {
         return true;
     }
-    statuses < 2304
+    altered < CORNERS
 }
 
 // The refusals that the input alone decides: 9; 1; 3, 4 and 5; 6, of the floor handed in.
@@ -71,7 +74,7 @@ fn judge(short: bool, size: f64, cells: usize, batch: &[i64]) -> u8
     if number != 0 {
         return number;
     }
-    if 1024 < cells {
+    if CELLS < cells {
         return 6;
     }
     0
@@ -85,18 +88,21 @@ fn apply(
     confirmed: &mut [u64],
     full: &mut [u8],
     corners: &mut [u64],
-    statuses: &mut [u8],
+    altered: &mut [u8],
 ) -> Changed
-    requires { ⌜ (floor .cells ≤ maxCells) × (maxCells ≤ length (now cells)) × (length (entries (now batch)) ≤ length (now confirmed)) × (length (entries (now batch)) ≤ length (now full)) ⌝ }
-    ensures { λ r. ⌜ (r .refusal ≡ 0) × ((C : List ℕ) → Applying (now (cells .entry)) (floor .cells) C (entries (now (batch .entry))) (length (now (corners .entry))) (length (now (statuses .entry))) → Done floor C (entries (now (batch .entry)))
-        (record { cells = now (cells .entry); confirmed = now (confirmed .entry); full = now (full .entry); corners = now (corners .entry); statuses = now (statuses .entry) })
-        (record { cells = now (cells .exit); confirmed = now (confirmed .exit); full = now (full .exit); corners = now (corners .exit); statuses = now (statuses .exit) }) r) ⌝ }
+    requires { ⌜ (floor .cells ≤ maxCells) × (maxCells ≤ length (now cells))
+        × (length (entries (now batch)) ≤ length (now confirmed)) × (length (entries (now batch)) ≤ length (now full)) ⌝ }
+    ensures { λ r. ⌜ (r .refusal ≡ 0) × ((C : List ℕ)
+        → Applying (now (cells .entry)) (floor .cells) C (entries (now (batch .entry))) (length (now (corners .entry))) (length (now (altered .entry)))
+        → Done floor C (entries (now (batch .entry)))
+        (lentOf (now (cells .entry)) (now (confirmed .entry)) (now (full .entry)) (now (corners .entry)) (now (altered .entry)))
+        (lentOf (now (cells .exit)) (now (confirmed .exit)) (now (full .exit)) (now (corners .exit)) (now (altered .exit))) r) ⌝ }
 {
     let n = floor.cells;
     let changes = confirm(&cells[..n], batch, confirmed, full);
-    let altered = corner_changes(&cells[..n], &confirmed[..changes], corners, statuses);
+    let changed = corner_changes(&cells[..n], &confirmed[..changes], corners, altered);
     let after = commit(
-        &mut cells[..1024],
+        &mut cells[..CELLS],
         n,
         &confirmed[..changes],
         &full[..changes],
@@ -104,7 +110,7 @@ fn apply(
     Changed {
         refusal: 0,
         confirmed: changes,
-        corners: altered,
+        corners: changed,
         floor: Floor {
             size: floor.size,
             cells: after,
@@ -113,7 +119,7 @@ fn apply(
 }
 
 // Changes the floor's cells as the batch says. `cells` holds the floor's cells; `confirmed` and `full` get the confirmed
-// changes, `corners` and `statuses` the corner changes.
+// changes, `corners` and `altered` the corner changes with their statuses.
 pub fn change_cells(
     floor: Floor,
     cells: &mut [u64],
@@ -121,11 +127,11 @@ pub fn change_cells(
     confirmed: &mut [u64],
     full: &mut [u8],
     corners: &mut [u64],
-    statuses: &mut [u8],
+    altered: &mut [u8],
 ) -> Changed
     ensures { λ r. ⌜ Changing floor (now (batch .entry))
-        (record { cells = now (cells .entry); confirmed = now (confirmed .entry); full = now (full .entry); corners = now (corners .entry); statuses = now (statuses .entry) })
-        (record { cells = now (cells .exit); confirmed = now (confirmed .exit); full = now (full .exit); corners = now (corners .exit); statuses = now (statuses .exit) }) r ⌝ }
+        (lentOf (now (cells .entry)) (now (confirmed .entry)) (now (full .entry)) (now (corners .entry)) (now (altered .entry)))
+        (lentOf (now (cells .exit)) (now (confirmed .exit)) (now (full .exit)) (now (corners .exit)) (now (altered .exit))) r ⌝ }
 {
     let n = floor.cells;
     let short = is_short(
@@ -133,14 +139,14 @@ pub fn change_cells(
         confirmed.len(),
         full.len(),
         corners.len(),
-        statuses.len(),
+        altered.len(),
     );
     let number = judge(short, floor.size, n, batch);
     if number != 0 {
         return refused(number);
     }
-    if 1024 < count_after(&cells[..n], batch) {
+    if CELLS < count_after(&cells[..n], batch) {
         return refused(6);
     }
-    apply(floor, cells, batch, confirmed, full, corners, statuses)
+    apply(floor, cells, batch, confirmed, full, corners, altered)
 }

@@ -8,6 +8,7 @@ use question::judge::bad_question;
 use question::numbered::Numbered;
 use question::numbered::question_of;
 use question::search::search;
+ghost use Rattle.grid.specs.Change.{lentOf};
 ghost use Rattle.grid_c.specs.Called.{Called};
 ghost use Rattle.grid_c.specs.Told.{Tells, question};
 
@@ -55,19 +56,19 @@ pub extern "C" fn runcedau_floor_change_cells(
     confirmed: &mut [u64],
     full: &mut [u8],
     corners: &mut [u64],
-    statuses: &mut [u8],
+    altered: &mut [u8],
     counts: &mut [u64],
 ) -> u8
     ensures { λ r. ⌜ Called (record { size = size; cells = count }) (now (batch .entry))
-        (record { cells = now (cells .entry); confirmed = now (confirmed .entry); full = now (full .entry); corners = now (corners .entry); statuses = now (statuses .entry) })
-        (record { cells = now (cells .exit); confirmed = now (confirmed .exit); full = now (full .exit); corners = now (corners .exit); statuses = now (statuses .exit) })
+        (lentOf (now (cells .entry)) (now (confirmed .entry)) (now (full .entry)) (now (corners .entry)) (now (altered .entry)))
+        (lentOf (now (cells .exit)) (now (confirmed .exit)) (now (full .exit)) (now (corners .exit)) (now (altered .exit)))
         (now (counts .entry)) (now (counts .exit)) r ⌝ }
 {
     if counts.len() < 3 {
         return 9;
     }
     let floor = Floor { size, cells: count };
-    let r = change_cells(floor, cells, batch, confirmed, full, corners, statuses);
+    let r = change_cells(floor, cells, batch, confirmed, full, corners, altered);
     if r.refusal != 0 {
         return r.refusal;
     }

@@ -1,4 +1,4 @@
--- Lists with zeros behind, and tables whose first places are written. Assumes nothing.
+-- Lists filled up with zeros, and tables whose first places are written. Assumes nothing.
 use Prim.Native.Nat.{ℕ, _+_, _-_, _≤_}
 use native.Mathlib.Omega.{arith}
 use mathlib.Core.Path.{_≡_, refl, sym, ap, _∙_}
@@ -27,7 +27,7 @@ padded-room cap l t h e =
     let y : length (pad cap l) ≡ cap = pad-length cap l h in
     omega (arith, x, y)
 
--- a table u of which the first places are written anew: with l, and zeros behind it
+-- a table u of which the first places are written anew: with l, and zeros after it
 module _ (cap : ℕ) (l d u : List ℕ) (few : length l ≤ cap) (e : u ≡ pad cap l ++ d) where
   pub written-rest : drop cap u ≡ d
   written-rest = ap (drop cap) e ∙ drop-at (pad cap l) d cap (pad-length cap l few)

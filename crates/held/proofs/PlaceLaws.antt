@@ -18,7 +18,7 @@ place-some n = ne-eqb (suc n) 0 (λ e. omega arith)
 pub place-back : (n : ℕ) → suc n - 1 ≡ n
 place-back n = omega arith
 
--- a member's place is in the list, and it stands there
+-- a member's place is in the list, and the member is there
 module _ (k : ℕ) (l : List ℕ) (a : AscL 0 l) (h : has k l ≡ true) where
   pub rank-inside : rank k l < length l
   rank-inside = stands-inside k (rank k l) l (has-there k l a h .stood)

@@ -20,6 +20,10 @@ pub record Tables : Type 0 where
   pub blockers : List ℕ
   pub pairs : List ℕ
 
+-- five lists as a map's tables
+abbrev pub tablesOf : List ℕ → List ℕ → List ℕ → List ℕ → List ℕ → Tables
+tablesOf cells points statuses blockers pairs = record { cells = cells; points = points; statuses = statuses; blockers = blockers; pairs = pairs }
+
 -- all zero: what a refused call gives
 abbrev pub noMap : Map
 noMap = record { size = nought; radius = nought; cells = 0; points = 0 }

@@ -21,7 +21,7 @@ use Rattle.mapfile.specs.declared.state.Reader.{Reader}
 use Rattle.mapfile.specs.declared.state.Reading.{Reading}
 use Rattle.report.proofs.CallLaws.{not-short}
 use Rattle.window.specs.Refilled.{Refilled, Within, bytesOf}
-use Rattle.window.specs.Wanted.{wanted}
+use Rattle.model.specs.Limits.{needWindow}
 use Rattle.window.specs.declared.input.Window.{Window}
 use Rattle.intake.specs.Taken.{Came, EndsWith, Taken, lent}
 use Rattle.intake.specs.declared.input.End.{End}
@@ -34,16 +34,16 @@ most = 9223372036854775807
 pub within-long : (w : Window) (b : List ℕ) → Within w b → length (bytesOf w b) ≡ w .end - w .from
 within-long w b h = let x = length-take (w .end - w .from) (drop (w .from) b) in let y = length-drop (w .from) b in omega arith
 
--- the window behind `used` of its bytes
+-- the window after `used` of its bytes
 pub behind : (from end used : ℕ) (b : List ℕ) → take (end - (from + used)) (drop (from + used) b) ≡ drop used (take (end - from) (drop from b))
 behind from end used b =
     part-is (from + used) end b ∙ sym (drop-drop used from (take end b)) ∙ ap (drop used) (sym (part-is from end b))
 
 -- what is lent is long enough
-pub tables-long : (b : List ℕ) (t : Tables) → short (lent b t) ≡ false → (wanted ≤ length b) × (short (needs t) ≡ false)
+pub tables-long : (b : List ℕ) (t : Tables) → short (lent b t) ≡ false → (needWindow ≤ length b) × (short (needs t) ≡ false)
 tables-long b t e = let h = long-enough (lent b t) e in (h .0, not-short (needs t) (h .1))
 
--- ---- the loop: `bytes` were read, of which w were not used; whatever the input has behind them (nothing, where it ended), a run from here is one from the start. `left` so many bytes may still be used
+-- ---- the loop: `bytes` were read, of which w were not used; for all that the input may have after them (nothing, where it ended), a run from here is one from the start. `left` so many bytes may still be used
 pub record Going (n : ℕ) (t₀ : Tables) (r : Reader) (t : Tables) (w : List ℕ) (ended : Bool) (left : ℕ) : Type 0 where
   pub bytes : List ℕ
   pub few : length bytes + left + n ≡ most + length w
@@ -53,7 +53,7 @@ pub go-start : (n : ℕ) (t : Tables) (r : Reader) (w : List ℕ) → r ≡ begu
 go-start n t r w e f h = rw (e, f) (record { bytes = []; few = omega arith; whole = λ rest k a t″ x. x })
 
 module _ {n : ℕ} {t₀ : Tables} {r : Reader} {t : Tables} {left : ℕ} where
-  -- more bytes come behind those of the window, or it stays as it is
+  -- more bytes come after those of the window, or it stays as it is
   pub go-fill : (w w′ : Window) (b b′ : List ℕ) → Within w b → Refilled w w′ b b′ → Going n t₀ r t (bytesOf w b) (w .ended) left → Going n t₀ r t (bytesOf w′ b′) (w′ .ended) left
   go-fill w w′ b b′ h f g = go (w .ended) refl
     where
@@ -79,12 +79,12 @@ module _ {n : ℕ} {t₀ : Tables} {r : Reader} {t : Tables} {left : ℕ} where
       go false e = more e
 
   module _ {w : List ℕ} {ended : Bool} (g : Going n t₀ r t w ended left) where
-    wide : (ended ≡ true) ⊎ (wanted ≤ length w) → (rest : List ℕ) → (ended ≡ true → rest ≡ []) → Wide w rest
+    wide : (ended ≡ true) ⊎ (needWindow ≤ length w) → (rest : List ℕ) → (ended ≡ true → rest ≡ []) → Wide w rest
     wide v rest k = ⊎-elim (λ e. inr (k e)) (λ l. inl l) v
 
     module _ {t′ : Tables} {a : Reading} (x : FieldRead r w t t′ a) where
       -- a field is taken
-      pub go-more : (r′ : Reader) (used : ℕ) → a ≡ Reading.More r′ used → (ended ≡ true) ⊎ (wanted ≤ length w) → used ≤ left → Going n t₀ r′ t′ (drop used w) ended (left - used)
+      pub go-more : (r′ : Reader) (used : ℕ) → a ≡ Reading.More r′ used → (ended ≡ true) ⊎ (needWindow ≤ length w) → used ≤ left → Going n t₀ r′ t′ (drop used w) ended (left - used)
       go-more r′ used e v h =
           record {
             bytes = g .bytes;

@@ -15,7 +15,8 @@ use Rattle.model.specs.Listing.{listed, refusedLine}
 use Rattle.model.specs.Map as model
 use Rattle.model.specs.MapFile.{done}
 use Rattle.model.specs.Refusal.{short}
-use Rattle.print.specs.Printed.{Printed, lineRoom}
+use Rattle.print.specs.Printed.{Printed}
+use Rattle.model.specs.Limits.{lineRoom, needListing, needWindow}
 use Rattle.report.proofs.CallLaws.{not-short}
 use Rattle.intake.specs.Showed.{Puts, Showed}
 use Rattle.intake.specs.Shown.{ShownInput, Tells, lentOut}
@@ -27,7 +28,7 @@ use Rattle.intake.specs.declared.output.Put.{Put}
 pub shown-lacking : (b o : List ℕ) (r : Count) → r ≡ refusedWith 9 → short (lentOut b o) ≡ true → ShownInput b b o o (Shown.Listed r)
 shown-lacking b o r e s = record { lacking = λ _. (rw e refl, refl, refl); shown = λ f. absurd (true≢false (sym s ∙ f)) }
 
-pub out-long : (b o : List ℕ) → short (lentOut b o) ≡ false → (2307 ≤ length b) × (166656 ≤ length o)
+pub out-long : (b o : List ℕ) → short (lentOut b o) ≡ false → (needWindow ≤ length b) × (needListing ≤ length o)
 out-long b o s = let h = long-enough (lentOut b o) s in (h .0, h .1 .0)
 
 -- ---- what is lent is long enough: the input was read into tables of the call's own, and the end's cases

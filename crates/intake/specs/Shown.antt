@@ -7,13 +7,12 @@ use lib.ListN.{length}
 use Rattle.answers.specs.Asking.{refusedWith}
 use Rattle.report.specs.Filed.{Listed}
 use Rattle.model.specs.Refusal.{short}
-use Rattle.report.specs.Reported.{needListing}
-use Rattle.window.specs.Wanted.{wanted}
+use Rattle.model.specs.Limits.{needListing, needWindow}
 use Rattle.intake.specs.declared.listing.Shown.{Shown}
 
 -- each length with its need: the buffer's through which the input is read, and the listing's
 abbrev pub lentOut : List ℕ → List ℕ → List (ℕ × ℕ)
-lentOut buffer o = (length buffer, wanted) ∷ (length o, needListing) ∷ []
+lentOut buffer o = (length buffer, needWindow) ∷ (length o, needListing) ∷ []
 
 -- the answer, by its cases: bytes came, and o became o′ as `list_file` has it of these bytes; or nothing is listed
 abbrev pub Tells : Shown → List ℕ → List ℕ → Type 0

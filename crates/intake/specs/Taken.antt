@@ -10,12 +10,12 @@ use Rattle.model.specs.MapFile.{readFile}
 use Rattle.model.specs.Refusal.{short}
 use Rattle.mapfile.specs.Moves.{begun}
 use Rattle.mapfile.specs.declared.state.Reading.{Reading}
-use Rattle.window.specs.Wanted.{wanted}
+use Rattle.model.specs.Limits.{needWindow}
 use Rattle.intake.specs.declared.input.End.{End}
 
 -- each length with its need: the buffer's, and the tables'
 abbrev pub lent : List ℕ → Tables → List (ℕ × ℕ)
-lent buffer t = (length buffer, wanted) ∷ needs t
+lent buffer t = (length buffer, needWindow) ∷ needs t
 
 -- the bytes came, the contents of the windows one after another: calls of `one_field` took their fields from the first on, with the tables t, up to the answer a and the tables t′;
 -- and that is the model's reading of them

@@ -1,14 +1,16 @@
 // The map that a descriptor gives. A file of any length is read through a buffer of fixed length, field by field.
 use answers::judge::lacks;
+use answers::judge::lacks_tables;
 use held::map::Map;
 use mapfile::field::one_field;
 use mapfile::state::Reading;
 use mapfile::state::begin;
+use sizes::WINDOW;
 use window::input::Window;
 use window::input::refill;
 ghost use mathlib.Core.Path.{_≡_};
 ghost use mathlib.Core.Bool.{false};
-ghost use lib.ListN.{length};
+ghost use Rattle.held.specs.Holds.{tablesOf};
 ghost use Rattle.model.specs.Refusal.{short};
 ghost use Rattle.intake.specs.Taken.{EndsWith, Taken, lent};
 
@@ -19,7 +21,7 @@ pub enum End {
     Unread,
 }
 
-// Reads all fields. A proved loop has to end, and nothing says that the input does: of 2^63 bytes or more it is told as unread.
+// Reads all fields. A proved loop has to end, and nothing says that the input does: an input of 2^63 bytes or more is told as unread.
 fn read_fields(
     fd: i32,
     buffer: &mut [u8],
@@ -29,11 +31,10 @@ fn read_fields(
     blockers: &mut [u64],
     pairs: &mut [u64],
 ) -> End
-    requires { ⌜ short (lent (now buffer)
-        (record { cells = now cells; points = now points; statuses = now statuses; blockers = now blockers; pairs = now pairs })) ≡ false ⌝ }
+    requires { ⌜ short (lent (now buffer) (tablesOf (now cells) (now points) (now statuses) (now blockers) (now pairs))) ≡ false ⌝ }
     ensures { λ r. ⌜ EndsWith r
-        (record { cells = now (cells .entry); points = now (points .entry); statuses = now (statuses .entry); blockers = now (blockers .entry); pairs = now (pairs .entry) })
-        (record { cells = now (cells .exit); points = now (points .exit); statuses = now (statuses .exit); blockers = now (blockers .exit); pairs = now (pairs .exit) }) ⌝ }
+        (tablesOf (now (cells .entry)) (now (points .entry)) (now (statuses .entry)) (now (blockers .entry)) (now (pairs .entry)))
+        (tablesOf (now (cells .exit)) (now (points .exit)) (now (statuses .exit)) (now (blockers .exit)) (now (pairs .exit))) ⌝ }
 {
     let mut reader = begin();
     let mut window = Window {
@@ -85,19 +86,18 @@ pub fn read_map(
     pairs: &mut [u64],
 ) -> End
     ensures { λ r. ⌜ Taken (now (buffer .entry)) (now (buffer .exit))
-        (record { cells = now (cells .entry); points = now (points .entry); statuses = now (statuses .entry); blockers = now (blockers .entry); pairs = now (pairs .entry) })
-        (record { cells = now (cells .exit); points = now (points .exit); statuses = now (statuses .exit); blockers = now (blockers .exit); pairs = now (pairs .exit) }) r ⌝ }
+        (tablesOf (now (cells .entry)) (now (points .entry)) (now (statuses .entry)) (now (blockers .entry)) (now (pairs .entry)))
+        (tablesOf (now (cells .exit)) (now (points .exit)) (now (statuses .exit)) (now (blockers .exit)) (now (pairs .exit))) r ⌝ }
 {
-    let layer = lacks(
+    let tables = lacks_tables(
+        cells.len(),
         points.len(),
-        64,
-        lacks(
-            statuses.len(),
-            64,
-            lacks(blockers.len(), 64, lacks(pairs.len(), 4096, false)),
-        ),
+        statuses.len(),
+        blockers.len(),
+        pairs.len(),
+        false,
     );
-    if lacks(buffer.len(), 2307, lacks(cells.len(), 1024, layer)) {
+    if lacks(buffer.len(), WINDOW, tables) {
         return End::Refused(9, 0);
     }
     read_fields(fd, buffer, cells, points, statuses, blockers, pairs)

@@ -6,6 +6,11 @@ use answers::judge::lacks;
 use answers::judge::refused;
 use print::refusal::put_refusal;
 use report::map::list_map;
+use sizes::CELLS;
+use sizes::LISTING;
+use sizes::PAIRS;
+use sizes::POINTS;
+use sizes::WINDOW;
 ghost use Rattle.intake.specs.Shown.{ShownInput};
 
 // The count of the listing's bytes, or the refusal 9 of a buffer that is short; or an input that could not be read to its end.
@@ -18,14 +23,14 @@ pub enum Shown {
 pub fn list_input(fd: i32, buffer: &mut [u8], out: &mut [u8]) -> Shown
     ensures { λ r. ⌜ ShownInput (now (buffer .entry)) (now (buffer .exit)) (now (out .entry)) (now (out .exit)) r ⌝ }
 {
-    if lacks(buffer.len(), 2307, lacks(out.len(), 166656, false)) {
+    if lacks(buffer.len(), WINDOW, lacks(out.len(), LISTING, false)) {
         return Shown::Listed(refused(9));
     }
-    let mut cells = [0u64; 1024];
-    let mut points = [0u64; 64];
-    let mut statuses = [0u8; 64];
-    let mut blockers = [0u64; 64];
-    let mut pairs = [0u64; 4096];
+    let mut cells = [0u64; CELLS];
+    let mut points = [0u64; POINTS];
+    let mut statuses = [0u8; POINTS];
+    let mut blockers = [0u64; POINTS];
+    let mut pairs = [0u64; PAIRS];
     let end = read_map(
         fd,
         buffer,

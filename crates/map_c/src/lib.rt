@@ -5,7 +5,8 @@ use visibility::change::Changed;
 use visibility::change::change_cells;
 use visibility::open::open;
 use visibility::radius::change_radius;
-ghost use Rattle.visibility.specs.Change.{Changing};
+ghost use Rattle.held.specs.Holds.{tablesOf};
+ghost use Rattle.visibility.specs.Change.{Changing, lentOf};
 ghost use Rattle.visibility.specs.Open.{Opening};
 ghost use Rattle.visibility.specs.Radius.{Rebuilding};
 
@@ -21,8 +22,8 @@ pub extern "C" fn runcedau_open(
     pairs: &mut [u64],
 ) -> Outcome
     ensures { λ o. ⌜ Opening size radius
-        (record { cells = now (cells .entry); points = now (points .entry); statuses = now (statuses .entry); blockers = now (blockers .entry); pairs = now (pairs .entry) })
-        (record { cells = now (cells .exit); points = now (points .exit); statuses = now (statuses .exit); blockers = now (blockers .exit); pairs = now (pairs .exit) }) o ⌝ }
+        (tablesOf (now (cells .entry)) (now (points .entry)) (now (statuses .entry)) (now (blockers .entry)) (now (pairs .entry)))
+        (tablesOf (now (cells .exit)) (now (points .exit)) (now (statuses .exit)) (now (blockers .exit)) (now (pairs .exit))) o ⌝ }
 {
     open(size, radius, cells, points, statuses, blockers, pairs)
 }
@@ -43,8 +44,10 @@ pub extern "C" fn runcedau_change_cells(
     altered: &mut [u8],
 ) -> Changed
     ensures { λ r. ⌜ Changing map (now (batch .entry))
-        (record { tables = record { cells = now (cells .entry); points = now (points .entry); statuses = now (statuses .entry); blockers = now (blockers .entry); pairs = now (pairs .entry) }; confirmed = now (confirmed .entry); full = now (full .entry); corners = now (corners .entry); altered = now (altered .entry) })
-        (record { tables = record { cells = now (cells .exit); points = now (points .exit); statuses = now (statuses .exit); blockers = now (blockers .exit); pairs = now (pairs .exit) }; confirmed = now (confirmed .exit); full = now (full .exit); corners = now (corners .exit); altered = now (altered .exit) }) r ⌝ }
+        (lentOf (now (cells .entry)) (now (points .entry)) (now (statuses .entry)) (now (blockers .entry)) (now (pairs .entry))
+        (now (confirmed .entry)) (now (full .entry)) (now (corners .entry)) (now (altered .entry)))
+        (lentOf (now (cells .exit)) (now (points .exit)) (now (statuses .exit)) (now (blockers .exit)) (now (pairs .exit))
+        (now (confirmed .exit)) (now (full .exit)) (now (corners .exit)) (now (altered .exit))) r ⌝ }
 {
     change_cells(
         map,
@@ -73,8 +76,8 @@ pub extern "C" fn runcedau_change_radius(
     radius: f64,
 ) -> Outcome
     ensures { λ o. ⌜ Rebuilding map radius
-        (record { cells = now (cells .entry); points = now (points .entry); statuses = now (statuses .entry); blockers = now (blockers .entry); pairs = now (pairs .entry) })
-        (record { cells = now (cells .entry); points = now (points .exit); statuses = now (statuses .exit); blockers = now (blockers .exit); pairs = now (pairs .exit) }) o ⌝ }
+        (tablesOf (now (cells .entry)) (now (points .entry)) (now (statuses .entry)) (now (blockers .entry)) (now (pairs .entry)))
+        (tablesOf (now (cells .entry)) (now (points .exit)) (now (statuses .exit)) (now (blockers .exit)) (now (pairs .exit))) o ⌝ }
 {
     change_radius(map, cells, points, statuses, blockers, pairs, radius)
 }

@@ -1,4 +1,4 @@
--- A field by its head: what the model makes of it, and what holds where nothing is due. Assumes nothing.
+-- The model's reading of one field, from the first bytes on: by what is due of its head, what is known of its length and value where nothing is, and that bytes after a window change nothing. Assumes nothing.
 use Prim.Native.Nat.{ℕ, suc, _+_, _*_, _/_, _%_, _≤_, _<_}
 use native.Mathlib.Nat.{not-suc-le-zero}
 use native.Mathlib.Omega.{arith}
@@ -131,7 +131,7 @@ due-window e w m h =
     let l : 2304 ≤ length (drop 3 w) = simp length-drop (omega arith) in
     rw (le-ltb (length (w ++ m)) 3 j, le-ltb (length w) 3 i, near w m 0 h (omega arith), near w m 1 h (omega arith), near w m 2 h (omega arith), drop-append-le 3 w m i, due-same (getD w 0 0) (lengthAt w) (drop 3 w) m l) refl
 
--- a field that is taken leaves what stands behind the window as it is
+-- a field that is taken leaves what comes after the window as it is
 module _ (m : List ℕ) where
   pushed : (t : Bool) (a b : Reading) → cond t (extend m a) (extend m b) ≡ extend m (cond t a b)
   pushed true a b = refl

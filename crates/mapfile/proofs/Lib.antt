@@ -2,7 +2,6 @@
 pub mod BatchLaws
 pub mod ByteLaws
 pub mod Determinate
-pub mod DeterminateNumbers
 pub mod FeedLaws
 pub mod FieldLaws
 pub mod HeadLaws

@@ -37,7 +37,7 @@ pub lacks-room : (v : List ℕ) (t : List ℤ) → length t / 3 < length v / 9 �
 lacks-room v t h = record { done = λ r. absurd (omega arith); lacking = λ r. (refl, refl) }
 
 module _ (v : List ℕ) (t t′ : List ℤ) (at n : ℕ) (s : Writing v t t′ at n) where
-  -- the entry at the place `at`, then those behind it
+  -- the entry at the place `at`, then those after it
   entry : at + 8 < length v → drop n (wanted v) ≡ int32 (take 4 (drop at v)) ∷ int32 (take 4 (drop (at + 4) v)) ∷ pos (getD v (at + 8) 0) ∷ numbersOf ((length v - (at + 9)) / 9) (drop (at + 9) v)
   unfolding numbersOf
   entry h =
@@ -57,7 +57,7 @@ module _ (v : List ℕ) (t t′ : List ℤ) (at n : ℕ) (s : Writing v t t′ a
       let e = entry-long h in
       omega (arith, s .room)
 
-  -- the number at a place of the entry, and what is behind it
+  -- the number at a place of the entry, and what comes after it
   number : (k : ℕ) (l : List ℤ) → drop n (wanted v) ≡ l → getD l k (pos 0) ≡ getD (wanted v) (n + k) (pos 0)
   number k l e = ap (λ (m : List ℤ). getD m k (pos 0)) (sym e) ∙ getD-drop n (wanted v) k (pos 0)
 

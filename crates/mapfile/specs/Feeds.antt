@@ -12,9 +12,9 @@ use Rattle.mapfile.specs.declared.state.Reading.{Reading}
 
 -- from the reader r and the tables t, the window w and the bytes that were not read, to the last answer and the tables then
 pub data Feeds : Reader → Tables → List ℕ → List ℕ → Reading → Tables → Type 0 where
-  -- more bytes are read, behind those of the window
+  -- more bytes are read, after those of the window
   fill : {r : Reader} {t : Tables} {w : List ℕ} (a : List ℕ) {rest : List ℕ} {e : Reading} {t″ : Tables} → Feeds r t (w ++ a) rest e t″ → Feeds r t w (a ++ rest) e t″
-  -- a call takes a field from the window, and the next call goes on behind it
+  -- a call takes a field from the window, and the next call goes on after it
   on : {r : Reader} {t : Tables} {w rest : List ℕ} {r′ : Reader} {used : ℕ} {t′ : Tables} {e : Reading} {t″ : Tables} → Wide w rest → FieldRead r w t t′ (Reading.More r′ used) → Feeds r′ t′ (drop used w) rest e t″ → Feeds r t w rest e t″
   -- a call refuses the field, or finds the end
   stop-refused : {r : Reader} {t : Tables} {w rest : List ℕ} {n f : ℕ} {t′ : Tables} → Wide w rest → FieldRead r w t t′ (Reading.Refused n f) → Feeds r t w rest (Reading.Refused n f) t′

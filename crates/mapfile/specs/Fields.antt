@@ -11,7 +11,7 @@ use Rattle.model.specs.MapFile as model
 use Rattle.mapfile.specs.declared.head.Expected.{Expected}
 use Rattle.mapfile.specs.declared.head.Head.{Head}
 
--- what the enum's cases stand for
+-- what the enum's cases mean
 abbrev pub expectedOf : Expected → model.Expected
 expectedOf Expected.Size = model.size
 expectedOf Expected.Radius = model.radius
@@ -37,7 +37,7 @@ unfoldable pub numbersOf : ℕ → List ℕ → List ℤ
 numbersOf zero b = []
 numbersOf (suc n) b = int32 (take 4 b) ∷ int32 (take 4 (drop 4 b)) ∷ pos (getD b 8 0) ∷ numbersOf n (drop entryBytes b)
 
--- all whole entries of v stand at the front of t′, r numbers; where they do not fit, nothing is written
+-- all whole entries of v are at the front of t′, r numbers; where they do not fit, nothing is written
 pub record Numbers (v : List ℕ) (r : ℕ) (t t′ : List ℤ) : Type 0 where
   pub done : length v / entryBytes ≤ length t / 3 → (r ≡ 3 * (length v / entryBytes)) × (t′ ≡ numbersOf (length v / entryBytes) v ++ drop r t)
   pub lacking : length t / 3 < length v / entryBytes → (r ≡ 0) × (t′ ≡ t)

@@ -33,13 +33,13 @@ pub record HoldsReader (r : Reader) (t : Tables) (R : model.Reader) : Type 0 whe
   pub holds : HoldsMap (R .expected) (r .map) t R
 
 -- ---- an answer
--- what each case says of the model's reading s of the bytes b: it goes on behind `used` of them; it is refused; it is done. t are the tables then
+-- what each case says of the model's reading s of the bytes b: it goes on after `used` of them; it is refused; it is done. t are the tables then
 abbrev pub Says : Reading → List ℕ → Tables → model.Reading → Type 0
 Says (Reading.More r used) b t s = (R : model.Reader) × (s ≡ model.more R (drop used b)) × HoldsReader r t R
 Says (Reading.Refused n f) b t s = s ≡ model.refused n f
 Says (Reading.Done m) b t s = (M : map.Map) × (s ≡ model.done M) × Holds m t M
 
--- the tables afterwards, beyond what they hold: a map that is opened or changed leaves what stands behind the needs, anything else leaves all
+-- the tables afterwards, beyond what they hold: a map that is opened or changed leaves the unused rest beyond the needs as it was, anything else leaves every table as it was
 abbrev pub LeftAt : Expected → Tables → Tables → Type 0
 LeftAt Expected.Size t t′ = t′ ≡ t
 LeftAt Expected.Radius t t′ = t′ ≡ t
@@ -51,7 +51,7 @@ Left (Reading.More r used) t t′ = LeftAt (r .expected) t t′
 Left (Reading.Refused n f) t t′ = t′ ≡ t
 Left (Reading.Done m) t t′ = t′ ≡ t
 
--- the call. Of a reader and tables that hold none of the model's (no run of calls from `begin` gives such) no more is promised than that a refusal alters nothing and that the field lies within the bytes
+-- the call. Of a reader and tables that hold none of the model's (no run of calls from `begin` gives such) no more is promised than that a refusal leaves every table as it was and that the field lies within the bytes
 pub record FieldRead (r : Reader) (b : List ℕ) (t t′ : Tables) (a : Reading) : Type 0 where
   pub lacking : short (needs t) ≡ true → (a ≡ Reading.Refused 9 (r .field)) × (t′ ≡ t)
   pub reads : short (needs t) ≡ false → (R : model.Reader) → HoldsReader r t R → suc (R .field) < 2 ^ 64 → Says a b t′ (oneField R b) × Left a t t′
@@ -72,7 +72,7 @@ stoppedAt r = stoppedAs (r .expected) r
 abbrev pub sizeTaken : Reader → List ℕ → ℕ → Reading
 sizeTaken r v used = let c = float64 (take 8 v) in cond (badSize c) (Reading.Refused 1 (r .field)) (Reading.More (movedOn r Expected.Radius c (r .map)) used)
 
--- the value v of a field with `used` bytes was taken where e is expected, as the model's `takes` has it; whatever it was, a refusal alters nothing
+-- the value v of a field with `used` bytes was taken where e is expected, as the model's `takes` has it; a refusal leaves every table as it was
 pub record Took (e : model.Expected) (takes : model.Reader → List ℕ → List ℕ → model.Reading) (r : Reader) (v : List ℕ) (used : ℕ) (t t′ : Tables) (a : Reading) : Type 0 where
   pub refused : (n f : ℕ) → a ≡ Reading.Refused n f → t′ ≡ t
   pub within : (r′ : Reader) (n : ℕ) → a ≡ Reading.More r′ n → n ≡ used

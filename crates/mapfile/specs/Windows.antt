@@ -4,26 +4,23 @@ use mathlib.Core.Path.{_≡_}
 use mathlib.Core.Logic.{_⊎_}
 use mathlib.Core.List.{List, [], _++_}
 use lib.ListN.{length}
+use Rattle.model.specs.Limits.{needWindow}
 use Rattle.model.specs.Map.{Map}
 use Rattle.model.specs.MapFile.{Reader, Reading, done, more, oneField, refused}
 
--- a reading with the bytes m behind those that are left
+-- a reading with the bytes m after those that are left
 abbrev pub extend : List ℕ → Reading → Reading
 extend m (more R b) = more R (b ++ m)
 extend m (refused n f) = refused n f
 extend m (done M) = done M
 
--- a tag, a length, and the longest value that fits: 3 + 9 * 256
-abbrev pub windowBytes : ℕ
-windowBytes = 2307
-
--- the window w has that many bytes, or nothing is left to read
+-- the window w has as many bytes as the longest field, or nothing is left to read
 abbrev pub Wide : List ℕ → List ℕ → Type 0
-Wide w rest = (windowBytes ≤ length w) ⊎ (rest ≡ [])
+Wide w rest = (needWindow ≤ length w) ⊎ (rest ≡ [])
 
 -- the readings to which windows lead: from the reader R, the window w, and the bytes that were not read
 pub data Reads : Reader → List ℕ → List ℕ → Reading → Type 0 where
-  -- more bytes are read, behind those of the window
+  -- more bytes are read, after those of the window
   fill : {R : Reader} {w : List ℕ} (a : List ℕ) {rest : List ℕ} {s : Reading} → Reads R (w ++ a) rest s → Reads R w (a ++ rest) s
   -- one field is taken from the window
   take : {R : Reader} {w rest : List ℕ} {R′ : Reader} {w′ : List ℕ} {s : Reading} → Wide w rest → oneField R w ≡ more R′ w′ → Reads R′ w′ rest s → Reads R w rest s

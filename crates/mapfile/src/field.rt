@@ -6,11 +6,15 @@ use crate::state::Reading;
 use crate::state::onward;
 use crate::value::float_at;
 use crate::value::numbers_of;
-use answers::judge::lacks;
+use answers::judge::lacks_tables;
 use limits::judge::bad_size;
+use sizes::BATCH;
+use sizes::CORNERS;
+use sizes::NUMBERS;
 use visibility::change::change_cells;
 use visibility::open::open;
 ghost use mathlib.Core.Path.{_≡_};
+ghost use Rattle.held.specs.Holds.{tablesOf};
 ghost use Rattle.mapfile.specs.Reads.{FieldRead, TookBatch, TookRadius, stoppedAt, sizeTaken};
 
 // The file stops here: after FF that is its end.
@@ -52,8 +56,8 @@ fn take_radius(
     pairs: &mut [u64],
 ) -> Reading
     ensures { λ r. ⌜ TookRadius reader (now (value .entry)) used
-        (record { cells = now (cells .entry); points = now (points .entry); statuses = now (statuses .entry); blockers = now (blockers .entry); pairs = now (pairs .entry) })
-        (record { cells = now (cells .exit); points = now (points .exit); statuses = now (statuses .exit); blockers = now (blockers .exit); pairs = now (pairs .exit) }) r ⌝ }
+        (tablesOf (now (cells .entry)) (now (points .entry)) (now (statuses .entry)) (now (blockers .entry)) (now (pairs .entry)))
+        (tablesOf (now (cells .exit)) (now (points .exit)) (now (statuses .exit)) (now (blockers .exit)) (now (pairs .exit))) r ⌝ }
 {
     let opened = open(
         reader.size,
@@ -84,15 +88,15 @@ fn take_batch(
     pairs: &mut [u64],
 ) -> Reading
     ensures { λ r. ⌜ TookBatch reader (now (value .entry)) used
-        (record { cells = now (cells .entry); points = now (points .entry); statuses = now (statuses .entry); blockers = now (blockers .entry); pairs = now (pairs .entry) })
-        (record { cells = now (cells .exit); points = now (points .exit); statuses = now (statuses .exit); blockers = now (blockers .exit); pairs = now (pairs .exit) }) r ⌝ }
+        (tablesOf (now (cells .entry)) (now (points .entry)) (now (statuses .entry)) (now (blockers .entry)) (now (pairs .entry)))
+        (tablesOf (now (cells .exit)) (now (points .exit)) (now (statuses .exit)) (now (blockers .exit)) (now (pairs .exit))) r ⌝ }
 {
-    let mut numbers = [0i64; 768];
+    let mut numbers = [0i64; NUMBERS];
     let n = numbers_of(value, &mut numbers[..]);
-    let mut confirmed = [0u64; 256];
-    let mut full = [0u8; 256];
-    let mut corners = [0u64; 2304];
-    let mut altered = [0u8; 2304];
+    let mut confirmed = [0u64; BATCH];
+    let mut full = [0u8; BATCH];
+    let mut corners = [0u64; CORNERS];
+    let mut altered = [0u8; CORNERS];
     let map = reader.map;
     let changed = change_cells(
         map,
@@ -116,7 +120,7 @@ fn take_batch(
 }
 
 // Takes the field with which `bytes` begin. They are the rest of the file, or its next 2,307 bytes at least: no field that is accepted has more. A refusal
-// alters no table.
+// leaves every table as it was.
 pub fn one_field(
     reader: Reader,
     bytes: &[u8],
@@ -127,19 +131,17 @@ pub fn one_field(
     pairs: &mut [u64],
 ) -> Reading
     ensures { λ r. ⌜ FieldRead reader (now (bytes .entry))
-        (record { cells = now (cells .entry); points = now (points .entry); statuses = now (statuses .entry); blockers = now (blockers .entry); pairs = now (pairs .entry) })
-        (record { cells = now (cells .exit); points = now (points .exit); statuses = now (statuses .exit); blockers = now (blockers .exit); pairs = now (pairs .exit) }) r ⌝ }
+        (tablesOf (now (cells .entry)) (now (points .entry)) (now (statuses .entry)) (now (blockers .entry)) (now (pairs .entry)))
+        (tablesOf (now (cells .exit)) (now (points .exit)) (now (statuses .exit)) (now (blockers .exit)) (now (pairs .exit))) r ⌝ }
 {
-    let layer = lacks(
+    if lacks_tables(
+        cells.len(),
         points.len(),
-        64,
-        lacks(
-            statuses.len(),
-            64,
-            lacks(blockers.len(), 64, lacks(pairs.len(), 4096, false)),
-        ),
-    );
-    if lacks(cells.len(), 1024, layer) {
+        statuses.len(),
+        blockers.len(),
+        pairs.len(),
+        false,
+    ) {
         return Reading::Refused(9, reader.field);
     }
     if bytes.len() == 0 {

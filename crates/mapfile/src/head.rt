@@ -1,9 +1,15 @@
 // A field's tag and length, and whether its value is there (RULES 5.2: a tag before its length, a length before its value).
 use crate::value::bad_flags;
 use crate::value::wide;
+use sizes::BATCH;
 ghost use mathlib.Core.Path.{_≡_};
 ghost use Rattle.model.specs.MapFile as model;
 ghost use Rattle.mapfile.specs.Fields.{expectedOf, headOf};
+
+// Bytes of an entry of a batch, and of the longest value of a field 03.
+pub(crate) const ENTRY: usize = 9;
+
+const VALUE: usize = ENTRY * BATCH;
 
 // What may come next: field 01, field 02, a field 03 or FF, nothing.
 pub enum Expected {
@@ -14,7 +20,7 @@ pub enum Expected {
 }
 
 // 0, the field's tag, and how many bytes its value has; or the refusal's number, and all else zero.
-pub struct Head {
+pub(crate) struct Head {
     pub due: u8,
     pub tag: u8,
     pub length: usize,
@@ -40,7 +46,7 @@ fn fitting(tag: u8, n: usize) -> bool
     ensures { λ r. ⌜ r ≡ model.fitting tag n ⌝ }
 {
     if tag == 3 {
-        return n % 9 == 0;
+        return n % ENTRY == 0;
     }
     if tag == 255 {
         return n == 0;
@@ -53,7 +59,7 @@ fn due(tag: u8, n: usize, rest: &[u8]) -> u8
     ensures { λ r. ⌜ r ≡ model.due tag n (now (rest .entry)) ⌝ }
 {
     if tag == 3 {
-        if 2304 < n {
+        if VALUE < n {
             return 3;
         }
     }
@@ -82,7 +88,7 @@ fn refused(number: u8) -> Head
 }
 
 // Judges the field with which `bytes` begin.
-pub fn read_head(expected: Expected, bytes: &[u8]) -> Head
+pub(crate) fn read_head(expected: Expected, bytes: &[u8]) -> Head
     ensures { λ r. ⌜ r ≡ headOf (expectedOf expected) (now (bytes .entry)) ⌝ }
 {
     if bytes.len() < 3 {

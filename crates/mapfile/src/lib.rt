@@ -2,4 +2,4 @@
 pub mod field;
 pub mod head;
 pub mod state;
-pub mod value;
+mod value;

@@ -1,4 +1,4 @@
-// Where the reading of a map file stands.
+// How far a map file was read.
 use crate::head::Expected;
 use held::map::Map;
 ghost use mathlib.Core.Path.{_≡_};
@@ -37,7 +37,7 @@ pub fn begin() -> Reader
 }
 
 // On to the next field. There are fewer fields than 2^64 in any file.
-pub fn onward(reader: Reader, expected: Expected, size: f64, map: Map) -> Reader
+pub(crate) fn onward(reader: Reader, expected: Expected, size: f64, map: Map) -> Reader
     ensures { λ r. ⌜ r ≡ movedOn reader expected size map ⌝ }
 {
     Reader {

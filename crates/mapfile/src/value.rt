@@ -1,4 +1,5 @@
 // What a field's value says: a float's bits, or a batch of entries.
+use crate::head::ENTRY;
 use ieee::bits::float_of;
 ghost use mathlib.Core.Path.{_≡_};
 ghost use Prim.Native.Nat.{_+_, _/_, _<_, _≤_};
@@ -14,7 +15,7 @@ pub(crate) fn wide(b: u8) -> u64
 }
 
 // The float of the first 8 bytes, big-endian.
-pub fn float_at(value: &[u8]) -> f64
+pub(crate) fn float_at(value: &[u8]) -> f64
     ensures { λ r. ⌜ r ≡ float64 (take 8 (now (value .entry))) ⌝ }
 {
     let mut v: u64 = 0;
@@ -49,16 +50,16 @@ pub(crate) fn bad_flags(value: &[u8]) -> bool
         if 1 < value[at + 8] {
             return true;
         }
-        at += 9;
+        at += ENTRY;
     }
     false
 }
 
 // The entries as the library takes them: x, y, and 0 or 1, where there is room for them. Returns how many numbers there are.
-pub fn numbers_of(value: &[u8], out: &mut [i64]) -> usize
+pub(crate) fn numbers_of(value: &[u8], out: &mut [i64]) -> usize
     ensures { λ r. ⌜ Numbers (now (value .entry)) r (now (out .entry)) (now (out .exit)) ⌝ }
 {
-    if out.len() / 3 < value.len() / 9 {
+    if out.len() / 3 < value.len() / ENTRY {
         return 0;
     }
     let mut at = 0;
@@ -67,7 +68,7 @@ pub fn numbers_of(value: &[u8], out: &mut [i64]) -> usize
         out[n] = int_at(value, at);
         out[n + 1] = int_at(value, at + 4);
         out[n + 2] = wide(value[at + 8]) as i64;
-        at += 9;
+        at += ENTRY;
         n += 3;
     }
     n

@@ -61,48 +61,48 @@ module _ (points statuses : List ℕ) (ps : Points) (e : points ≡ keys ps) (v 
   holds : stands k at points ≡ has k (keys ps)
   holds = ap (stands k at) e ∙ stands-has k at (keys ps) (asc-keys 0 ps a) place
 
-  pub begun-there : stands k at points ≡ true → _≡_ {A = Mood} (record { bits = getD statuses at 0 % 16; old = at + 1; first = 0 }) (mood (begun ps k))
+  pub begun-there : stands k at points ≡ true → _≡_ {A = Mood} (record { status = getD statuses at 0 % 16; old = at + 1; first = 0 }) (mood (begun ps k))
   unfolding begun
   begun-there h =
       let t : has k (keys ps) ≡ true = sym holds ∙ h in
       let s : getD statuses at 0 ≡ number (bitsIn ps k) = ap (λ (l : List ℕ). getD l at 0) v ∙ ap (λ (i : ℕ). getD (statusesOf ps) i 0) place ∙ status-at 0 k ps a t in
       let b : getD statuses at 0 % 16 ≡ number (bitsIn ps k) = omega (arith, number-small (bitsIn ps k)) in
       let o : at + 1 ≡ cond (has k (keys ps)) (suc (rank k (keys ps))) 0 = rw (t, place) (add-one (rank k (keys ps))) in
-      λ i. record { bits = b i; old = o i; first = 0 }
+      λ i. record { status = b i; old = o i; first = 0 }
 
-  pub begun-absent : stands k at points ≡ false → _≡_ {A = Mood} (record { bits = 0; old = 0; first = 0 }) (mood (begun ps k))
+  pub begun-absent : stands k at points ≡ false → _≡_ {A = Mood} (record { status = 0; old = 0; first = 0 }) (mood (begun ps k))
   unfolding begun bitsIn number
   begun-absent h =
       let t : has k (keys ps) ≡ false = sym holds ∙ h in
       let b : 0 ≡ number (bitsOf (get k ps)) = sym (ap number (none-of (get k ps) (sym (keys-has k ps) ∙ t))) in
       let o : 0 ≡ cond (has k (keys ps)) (suc (rank k (keys ps))) 0 = rw t refl in
-      λ i. record { bits = b i; old = o i; first = 0 }
+      λ i. record { status = b i; old = o i; first = 0 }
 
 -- ---- all keys: i of them have their word
 abbrev Whole : List ℕ → List ℕ → List ℕ → List ℕ → List ℕ → ℕ → Type 0
-Whole points statuses ks m m′ i = (ps : Points) → points ≡ keys ps → statuses ≡ statusesOf ps → Asc 0 ps → m′ ≡ mix (words (begun ps) ks) m i
+Whole points statuses candidates m m′ i = (ps : Points) → points ≡ keys ps → statuses ≡ statusesOf ps → Asc 0 ps → m′ ≡ mix (words (begun ps) candidates) m i
 
-pub record Begun (points statuses ks m m′ : List ℕ) (i : ℕ) : Type 0 where
-  pub few : i ≤ length ks
-  pub room : length ks ≡ length m
+pub record Begun (points statuses candidates m m′ : List ℕ) (i : ℕ) : Type 0 where
+  pub few : i ≤ length candidates
+  pub room : length candidates ≡ length m
   pub long : length m′ ≡ length m
-  pub is : Whole points statuses ks m m′ i
+  pub is : Whole points statuses candidates m m′ i
 
-pub begun-none : (points statuses ks m : List ℕ) → length ks ≡ length m → Begun points statuses ks m m 0
-begun-none points statuses ks m h = record { few = omega arith; room = h; long = refl; is = λ ps e f a. refl }
+pub begun-none : (points statuses candidates m : List ℕ) → length candidates ≡ length m → Begun points statuses candidates m m 0
+begun-none points statuses candidates m h = record { few = omega arith; room = h; long = refl; is = λ ps e f a. refl }
 
-module _ (points statuses ks m m′ : List ℕ) (i : ℕ) (b : Begun points statuses ks m m′ i) where
-  pub begun-more : i < length ks → (v : ℕ) → ((ps : Points) → points ≡ keys ps → statuses ≡ statusesOf ps → Asc 0 ps → v ≡ word (begun ps (getD ks i 0))) → Begun points statuses ks m (set m′ i v) (i + 1)
+module _ (points statuses candidates m m′ : List ℕ) (i : ℕ) (b : Begun points statuses candidates m m′ i) where
+  pub begun-more : i < length candidates → (v : ℕ) → ((ps : Points) → points ≡ keys ps → statuses ≡ statusesOf ps → Asc 0 ps → v ≡ word (begun ps (getD candidates i 0))) → Begun points statuses candidates m (set m′ i v) (i + 1)
   begun-more h v w = record { few = omega arith; room = b .room; long = length-set m′ i v ∙ b .long; is = after }
     where
-      after : Whole points statuses ks m (set m′ i v) (i + 1)
+      after : Whole points statuses candidates m (set m′ i v) (i + 1)
       after ps e f a =
-          let ws = words (begun ps) ks in
-          let lw : length ws ≡ length ks = words-length (begun ps) ks in
-          let x : v ≡ getD ws i 0 = w ps e f a ∙ sym (words-at (begun ps) ks i h) in
+          let ws = words (begun ps) candidates in
+          let lw : length ws ≡ length candidates = words-length (begun ps) candidates in
+          let x : v ≡ getD ws i 0 = w ps e f a ∙ sym (words-at (begun ps) candidates i h) in
           ap (set m′ i) x ∙ ap (λ (l : List ℕ). set l i (getD ws i 0)) (b .is ps e f a) ∙ mix-more ws m i 0 (omega arith) (omega (arith, b .room))
 
-  pub begun-done : length ks ≤ i → (ps : Points) → points ≡ keys ps → statuses ≡ statusesOf ps → Asc 0 ps → m′ ≡ words (begun ps) ks
+  pub begun-done : length candidates ≤ i → (ps : Points) → points ≡ keys ps → statuses ≡ statusesOf ps → Asc 0 ps → m′ ≡ words (begun ps) candidates
   begun-done h ps e f a =
-      let lw : length (words (begun ps) ks) ≡ length ks = words-length (begun ps) ks in
-      b .is ps e f a ∙ mix-whole (words (begun ps) ks) m i (omega arith) (omega (arith, b .room))
+      let lw : length (words (begun ps) candidates) ≡ length candidates = words-length (begun ps) candidates in
+      b .is ps e f a ∙ mix-whole (words (begun ps) candidates) m i (omega arith) (omega (arith, b .room))

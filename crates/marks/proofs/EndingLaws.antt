@@ -10,7 +10,7 @@ use lib.Dec.{eqb}
 use lib.ListN.{length, take, drop, getD, set, length-append, length-set, take-append-drop}
 use lib.Seq.{take-suc, take-all}
 use borrow.Author.Tests.{eq-eqb, ne-eqb}
-use Rattle.corner.specs.Turns.{Added}
+use Rattle.corner.specs.Added.{Added}
 use Rattle.corner.proofs.AddedLaws.{added-listed, added-none, added-one, added-then}
 use Rattle.model.specs.Corner.{anyBit}
 use Rattle.table.specs.Listed.{Listed}
@@ -91,49 +91,49 @@ module _ (moods : List ℕ) (n i : ℕ) (c : Counted moods n i) where
 
 -- ---- listed: i keys are looked at
 abbrev Sofar : List ℕ → List ℕ → List ℕ → List ℕ → List ℕ → List ℕ → ℕ → ℕ → Type 0
-Sofar ks moods a a′ b b′ n i =
-    (f : ℕ → Standing) → moods ≡ words f ks → length (ending f ks) ≤ length a → length (ending f ks) ≤ length b → Added (ending f (take i ks)) a a′ b b′ 0 n
+Sofar candidates moods a a′ b b′ n i =
+    (f : ℕ → Standing) → moods ≡ words f candidates → length (ending f candidates) ≤ length a → length (ending f candidates) ≤ length b → Added (ending f (take i candidates)) a a′ b b′ 0 n
 
-pub record Picked (ks moods a a′ b b′ : List ℕ) (n i : ℕ) : Type 0 where
+pub record Picked (candidates moods a a′ b b′ : List ℕ) (n i : ℕ) : Type 0 where
   pub few : i ≤ length moods
   pub cells : length a′ ≡ length a
   pub numbers : length b′ ≡ length b
-  pub is : Sofar ks moods a a′ b b′ n i
+  pub is : Sofar candidates moods a a′ b b′ n i
 
-pub picked-none : (ks moods a b : List ℕ) → Picked ks moods a a b b 0 0
+pub picked-none : (candidates moods a b : List ℕ) → Picked candidates moods a a b b 0 0
 unfolding ending
-picked-none ks moods a b = record { few = omega arith; cells = refl; numbers = refl; is = λ f e ra rb. added-none a b 0 }
+picked-none candidates moods a b = record { few = omega arith; cells = refl; numbers = refl; is = λ f e ra rb. added-none a b 0 }
 
-module _ (ks moods a a′ b b′ : List ℕ) (n i : ℕ) (p : Picked ks moods a a′ b b′ n i) where
+module _ (candidates moods a a′ b b′ : List ℕ) (n i : ℕ) (p : Picked candidates moods a a′ b b′ n i) where
   pub picked-more : i < length moods → (getD moods i 0 % 16 ≡ 0 → ⊥) → n < length a′ → n < length b′
-      → Picked ks moods a (set a′ n (getD ks i 0)) b (set b′ n (getD moods i 0)) (n + 1) (i + 1)
+      → Picked candidates moods a (set a′ n (getD candidates i 0)) b (set b′ n (getD moods i 0)) (n + 1) (i + 1)
   picked-more h t ha hb = record {
     few = omega arith;
-    cells = length-set a′ n (getD ks i 0) ∙ p .cells;
+    cells = length-set a′ n (getD candidates i 0) ∙ p .cells;
     numbers = length-set b′ n (getD moods i 0) ∙ p .numbers;
     is = λ f e ra rb.
-        let one : List (ℕ × ℕ) = (getD ks i 0, getD moods i 0) ∷ [] in
-        subst (λ (l : List (ℕ × ℕ)). Added l a (set a′ n (getD ks i 0)) b (set b′ n (getD moods i 0)) 0 (n + 1)) (sym (ending-more f ks moods e i h t))
-        (added-then (ending f (take i ks)) one a a′ (set a′ n (getD ks i 0)) b b′ (set b′ n (getD moods i 0)) 0 n (n + 1) (p .is f e ra rb) (added-one a′ b′ n (getD ks i 0) (getD moods i 0) ha hb) (omega (arith, p .cells)) (omega (arith, p .numbers)));
+        let one : List (ℕ × ℕ) = (getD candidates i 0, getD moods i 0) ∷ [] in
+        subst (λ (l : List (ℕ × ℕ)). Added l a (set a′ n (getD candidates i 0)) b (set b′ n (getD moods i 0)) 0 (n + 1)) (sym (ending-more f candidates moods e i h t))
+        (added-then (ending f (take i candidates)) one a a′ (set a′ n (getD candidates i 0)) b b′ (set b′ n (getD moods i 0)) 0 n (n + 1) (p .is f e ra rb) (added-one a′ b′ n (getD candidates i 0) (getD moods i 0) ha hb) (omega (arith, p .cells)) (omega (arith, p .numbers)));
   }
 
-  pub picked-pass : i < length moods → getD moods i 0 % 16 ≡ 0 → Picked ks moods a a′ b b′ n (i + 1)
+  pub picked-pass : i < length moods → getD moods i 0 % 16 ≡ 0 → Picked candidates moods a a′ b b′ n (i + 1)
   picked-pass h t = record {
     few = omega arith;
     cells = p .cells;
     numbers = p .numbers;
-    is = λ f e ra rb. subst (λ (l : List (ℕ × ℕ)). Added l a a′ b b′ 0 n) (sym (ending-pass f ks moods e i h t)) (p .is f e ra rb);
+    is = λ f e ra rb. subst (λ (l : List (ℕ × ℕ)). Added l a a′ b b′ 0 n) (sym (ending-pass f candidates moods e i h t)) (p .is f e ra rb);
   }
 
   -- there is room for one more
-  room : i < length moods → (getD moods i 0 % 16 ≡ 0 → ⊥) → (f : ℕ → Standing) → moods ≡ words f ks → length (ending f ks) ≤ length a → length (ending f ks) ≤ length b → n < length (ending f ks)
+  room : i < length moods → (getD moods i 0 % 16 ≡ 0 → ⊥) → (f : ℕ → Standing) → moods ≡ words f candidates → length (ending f candidates) ≤ length a → length (ending f candidates) ≤ length b → n < length (ending f candidates)
   room h t f e ra rb =
-      let z : length (ending f (take (i + 1) ks)) ≡ length (ending f (take i ks)) + 1 =
-      ap length (ending-more f ks moods e i h t) ∙ length-append (ending f (take i ks)) ((getD ks i 0, getD moods i 0) ∷ []) in
-      omega (arith, ending-part f ks (i + 1), p .is f e ra rb .count)
+      let z : length (ending f (take (i + 1) candidates)) ≡ length (ending f (take i candidates)) + 1 =
+      ap length (ending-more f candidates moods e i h t) ∙ length-append (ending f (take i candidates)) ((getD candidates i 0, getD moods i 0) ∷ []) in
+      omega (arith, ending-part f candidates (i + 1), p .is f e ra rb .count)
 
   -- .. so that none is left out
-  pub picked-full : i < length moods → (getD moods i 0 % 16 ≡ 0 → ⊥) → (length a′ ≤ n) ⊎ (length b′ ≤ n) → Picked ks moods a a′ b b′ n (i + 1)
+  pub picked-full : i < length moods → (getD moods i 0 % 16 ≡ 0 → ⊥) → (length a′ ≤ n) ⊎ (length b′ ≤ n) → Picked candidates moods a a′ b b′ n (i + 1)
   picked-full h t x = record {
     few = omega arith;
     cells = p .cells;
@@ -141,5 +141,5 @@ module _ (ks moods a a′ b b′ : List ℕ) (n i : ℕ) (p : Picked ks moods a 
     is = λ f e ra rb. let r = room h t f e ra rb in absurd (⊎-elim (λ y. omega (arith, p .cells)) (λ y. omega (arith, p .numbers)) x);
   }
 
-  pub picked-done : length ks ≡ length moods → length ks ≤ i → (f : ℕ → Standing) → moods ≡ words f ks → length (ending f ks) ≤ length a → length (ending f ks) ≤ length b → Listed (ending f ks) a a′ b b′ n
-  picked-done l h f e ra rb = added-listed (ending f ks) a a′ b b′ n (subst (λ (l : List (ℕ × ℕ)). Added l a a′ b b′ 0 n) (ending-all f ks moods i e (omega arith)) (p .is f e ra rb))
+  pub picked-done : length candidates ≡ length moods → length candidates ≤ i → (f : ℕ → Standing) → moods ≡ words f candidates → length (ending f candidates) ≤ length a → length (ending f candidates) ≤ length b → Listed (ending f candidates) a a′ b b′ n
+  picked-done l h f e ra rb = added-listed (ending f candidates) a a′ b b′ n (subst (λ (l : List (ℕ × ℕ)). Added l a a′ b b′ 0 n) (ending-all f candidates moods i e (omega arith)) (p .is f e ra rb))

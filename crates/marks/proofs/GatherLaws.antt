@@ -1,4 +1,4 @@
--- The keys that the marks can speak of, put into a table one after another. Assumes nothing.
+-- The candidates, put into a table one after another. Assumes nothing.
 use Prim.Native.Nat.{ℕ, _+_, _*_, _%_, _^_, _≤_, _<_}
 use native.Mathlib.Omega.{arith}
 use mathlib.Core.Path.{_≡_, refl, sym, ap, _∙_}
@@ -11,18 +11,19 @@ use Rattle.model.specs.Cell.{SW, SE, NW, NE, W, move}
 use Rattle.model.specs.ClosedForm.{stand}
 use Rattle.model.specs.Corner.{Bits, bit, number}
 use Rattle.model.specs.Layer.{Mark, marks, marksOf}
+use Rattle.model.specs.Limits.{maxShift}
 use Rattle.model.specs.Maps.{add, keys}
 use Rattle.table.specs.Listed.{values}
 use Rattle.table.specs.Tables.{All, Changed, Table, added}
 use Rattle.table.proofs.AllLaws.{all-at}
 use Rattle.table.proofs.ListedLaws.{keys-length}
 use Rattle.table.proofs.TableLaws.{added-room, changed-keys, insert-room, insert-table}
-use Rattle.marks.specs.Marked.{Bordered, dirAt}
+use Rattle.marks.specs.Marked.{Bordered, Gathers, candidateRoom, dirAt, maxCandidates}
 use Rattle.model.proofs.StandLaws.{stand-append}
 use Rattle.marks.proofs.StandLaws.{add-few, cellAt, keys-at, markAt, marks-more, marks-next, numbers-at, stand-one, stand-part}
 
 -- ---- the four places, by differences that may wrap
-module _ (k s : ℕ) (few : s ≤ 64) (b : Bordered k) where
+module _ (k s : ℕ) (few : s ≤ maxShift) (b : Bordered k) where
   pub southwest : (r : ℕ) → (r + (s * W + s)) % 2 ^ 64 ≡ k → r < 2 ^ 64 → r ≡ move s SW k
   southwest r e f = omega arith
 
@@ -70,10 +71,10 @@ module _ (t t′ : List ℕ) (n r d k status s : ℕ) (more : d < 4) (p : Put t 
           let room : r < length t′ = omega (arith, w .2, p .long) in
           let lr : length (take r t′) ≡ r = length-take-le r t′ (w .0 .room) in
           let fits : length (take r t′) < length t′ = omega arith in
-          let ks : take r′ t″ ≡ add x (take r t′) = changed-keys t′ r t″ r′ (w .0) (added (length t′) x) c ∙ added-room (length t′) x (take r t′) (w .0 .asc) fits in
+          let candidates : take r′ t″ ≡ add x (take r t′) = changed-keys t′ r t″ r′ (w .0) (added (length t′) x) c ∙ added-room (length t′) x (take r t′) (w .0 .asc) fits in
           let z : add x (take r t′) ≡ add (move s (dirAt d) k) (stand (take d (marksOf s k b)) (take n t)) = rw (at g, w .1) refl in
           let count : r′ ≡ length (add x (take r t′)) = insert-room t′ r t″ r′ (w .0) x c room .1 in
-          (insert-table t′ r t″ r′ (w .0) x c, ks ∙ z ∙ sym (next b e (take n t) ∙ rw o refl), omega (arith, add-few x (take r t′), w .2))
+          (insert-table t′ r t″ r′ (w .0) x c, candidates ∙ z ∙ sym (next b e (take n t) ∙ rw o refl), omega (arith, add-few x (take r t′), w .2))
 
 pub put-done : (t t′ : List ℕ) (n r d k status s : ℕ) → 4 ≤ d → Put t t′ n r d k status s → (b : Bits) → status ≡ number b → Bordered k → Table t n → n + 4 ≤ length t
     → Table t′ r × (take r t′ ≡ stand (marksOf s k b) (take n t)) × (r ≤ n + 4)
@@ -84,52 +85,51 @@ put-done t t′ n r d k status s h p b e g T room =
 
 -- ---- all cells: i of them are looked at
 abbrev Whole : List ℕ → List ℕ → List ℕ → List ℕ → ℕ → ℕ → ℕ → ℕ → Type 0
-Whole t t′ corners statuses n r i s =
-    (cs : List (ℕ × Bits)) → corners ≡ keys cs → statuses ≡ values (numbered cs) → All Bordered (keys cs) → Table t n → n ≤ 128 → 132 ≤ length t
-    → Table t′ r × (take r t′ ≡ stand (marks s (take i cs)) (take n t))
+Whole t t′ corners altered n r i s =
+    (changed : List (ℕ × Bits)) → corners ≡ keys changed → altered ≡ values (numbered changed) → All Bordered (keys changed) → Table t n → n ≤ maxCandidates → candidateRoom ≤ length t
+    → Table t′ r × (take r t′ ≡ stand (marks s (take i changed)) (take n t))
 
-pub record Gathered (t t′ corners statuses : List ℕ) (n r i s : ℕ) : Type 0 where
+pub record Gathered (t t′ corners altered : List ℕ) (n r i s : ℕ) : Type 0 where
   pub few : i ≤ length corners
   pub long : length t′ ≡ length t
-  pub is : Whole t t′ corners statuses n r i s
+  pub is : Whole t t′ corners altered n r i s
 
-pub gathered-none : (t corners statuses : List ℕ) (n s : ℕ) → Gathered t t corners statuses n n 0 s
+pub gathered-none : (t corners altered : List ℕ) (n s : ℕ) → Gathered t t corners altered n n 0 s
 unfolding stand marks
-gathered-none t corners statuses n s = record { few = omega arith; long = refl; is = λ cs e f a T h l. (T, refl) }
+gathered-none t corners altered n s = record { few = omega arith; long = refl; is = λ changed e f a T h l. (T, refl) }
 
-module _ (t t′ corners statuses : List ℕ) (n r i s : ℕ) (g : Gathered t t′ corners statuses n r i s) where
-  pub gathered-more : i < length corners → r ≤ 128 → (t″ : List ℕ) (r′ : ℕ) → length t″ ≡ length t′
-      → ((b : Bits) → getD statuses i 0 ≡ number b → Bordered (getD corners i 0) → Table t′ r → r + 4 ≤ length t′
+module _ (t t′ corners altered : List ℕ) (n r i s : ℕ) (g : Gathered t t′ corners altered n r i s) where
+  pub gathered-more : i < length corners → r ≤ maxCandidates → (t″ : List ℕ) (r′ : ℕ) → length t″ ≡ length t′
+      → ((b : Bits) → getD altered i 0 ≡ number b → Bordered (getD corners i 0) → Table t′ r → r + 4 ≤ length t′
       → Table t″ r′ × (take r′ t″ ≡ stand (marksOf s (getD corners i 0) b) (take r t′)) × (r′ ≤ r + 4))
-      → Gathered t t″ corners statuses n r′ (i + 1) s
+      → Gathered t t″ corners altered n r′ (i + 1) s
   gathered-more more small t″ r′ long f = record { few = omega arith; long = long ∙ g .long; is = after }
     where
-      after : Whole t t″ corners statuses n r′ (i + 1) s
-      after cs e v a T h l =
-          let w = g .is cs e v a T h l in
-          let lc : length corners ≡ length cs = ap length e ∙ keys-length cs in
-          let c = cellAt cs i in
-          let key : getD corners i 0 ≡ c .0 = ap (λ (m : List ℕ). getD m i 0) e ∙ keys-at cs i in
-          let num : getD statuses i 0 ≡ number (c .1) = ap (λ (m : List ℕ). getD m i 0) v ∙ numbers-at cs i in
+      after : Whole t t″ corners altered n r′ (i + 1) s
+      after changed e v a T h l =
+          let w = g .is changed e v a T h l in
+          let lc : length corners ≡ length changed = ap length e ∙ keys-length changed in
+          let c = cellAt changed i in
+          let key : getD corners i 0 ≡ c .0 = ap (λ (m : List ℕ). getD m i 0) e ∙ keys-at changed i in
+          let num : getD altered i 0 ≡ number (c .1) = ap (λ (m : List ℕ). getD m i 0) v ∙ numbers-at changed i in
           let inside : Bordered (getD corners i 0) = all-at Bordered corners i (rw e a) more in
           let q = f (c .1) num inside (w .0) (omega (arith, g .long)) in
-          let ms = marks s (take i cs) in (
+          let ms = marks s (take i changed) in (
             q .0,
             q .1
                 ∙ ap (λ (m : List ℕ). stand (marksOf s (getD corners i 0) (c .1)) m) (w .1)
                 ∙ ap (λ (j : ℕ). stand (marksOf s j (c .1)) (stand ms (take n t))) key
-                ∙ sym (ap (λ (m : List Mark). stand m (take n t)) (marks-more s i cs (omega arith)) ∙ stand-append ms (marksOf s (c .0) (c .1)) (take n t)),
+                ∙ sym (ap (λ (m : List Mark). stand m (take n t)) (marks-more s i changed (omega arith)) ∙ stand-append ms (marksOf s (c .0) (c .1)) (take n t)),
           )
 
   -- all are looked at, or there are too many
-  pub gathered-done : (r ≤ 128 → length corners ≤ i) → (cs : List (ℕ × Bits)) → corners ≡ keys cs → statuses ≡ values (numbered cs) → All Bordered (keys cs) → Table t n → n ≤ 128 → 132 ≤ length t
-      → (r ≤ 128 → Table t′ r × (take r t′ ≡ stand (marks s cs) (take n t))) × (128 < r → 128 < length (stand (marks s cs) (take n t)))
-  gathered-done out cs e v a T h l =
-      let w = g .is cs e v a T h l in
-      let lc : length corners ≡ length cs = ap length e ∙ keys-length cs in (
-        λ small. let o = out small in (w .0, w .1 ∙ ap (λ (m : List (ℕ × Bits)). stand (marks s m) (take n t)) (take-all i cs (omega arith))),
+  pub gathered-done : (r ≤ maxCandidates → length corners ≤ i) → Gathers s corners altered t n t′ r
+  gathered-done out changed e v a T h l =
+      let w = g .is changed e v a T h l in
+      let lc : length corners ≡ length changed = ap length e ∙ keys-length changed in (
+        λ small. let o = out small in (w .0, w .1 ∙ ap (λ (m : List (ℕ × Bits)). stand (marks s m) (take n t)) (take-all i changed (omega arith))),
         λ big.
             let lr : length (take r t′) ≡ r = length-take-le r t′ (w .0 .room) in
-            let ls : length (take r t′) ≡ length (stand (marks s (take i cs)) (take n t)) = ap length (w .1) in
-            omega (arith, stand-part s i cs (take n t)),
+            let ls : length (take r t′) ≡ length (stand (marks s (take i changed)) (take n t)) = ap length (w .1) in
+            omega (arith, stand-part s i changed (take n t)),
       )

@@ -44,7 +44,7 @@ number-of n h =
 low : (a b : ℕ) → a < 128 → (a + 128 * b) % 128 ≡ a
 low a b h = omega arith
 
-pub word-read : (s : Standing) (w : ℕ) → Small s → w ≡ word s → _≡_ {A = Mood} (record { bits = w % 16; old = w / 16 % 128; first = w / 2048 }) (mood s)
+pub word-read : (s : Standing) (w : ℕ) → Small s → w ≡ word s → _≡_ {A = Mood} (record { status = w % 16; old = w / 16 % 128; first = w / 2048 }) (mood s)
 unfolding word
 word-read s w h e =
     let b = number-small (s .bits) in
@@ -52,11 +52,11 @@ word-read s w h e =
     let z : w / 16 ≡ s .old + 128 * s .first = omega arith in
     let q : w / 16 % 128 ≡ s .old = rw z (low (s .old) (s .first) (h .0)) in
     let r : w / 2048 ≡ s .first = omega arith in
-    λ i. record { bits = p i; old = q i; first = r i }
+    λ i. record { status = p i; old = q i; first = r i }
 
-pub word-written : (m : Mood) (w : Standing) → m ≡ mood w → m .bits + 16 * m .old + 2048 * m .first ≡ word w
+pub word-written : (m : Mood) (w : Standing) → m ≡ mood w → m .status + 16 * m .old + 2048 * m .first ≡ word w
 unfolding word
-word-written m w e = ap (λ (x : Mood). x .bits + 16 * x .old + 2048 * x .first) e
+word-written m w e = ap (λ (x : Mood). x .status + 16 * x .old + 2048 * x .first) e
 
 -- whether a word has a status
 pub word-any : (s : Standing) → not (eqb (word s % 16) 0) ≡ anyBit (s .bits)
@@ -97,14 +97,14 @@ module _ (b b′ : Bits) (on t q : Bool) where
   queue-cleared o e h = h ∙ rw (o, e) refl
 
 module _ (n : ℕ) (d : Dir) (k : ℕ) (on : Bool) (w : Standing) where
-  pub marked-is : (x : Mood) (q : Bool) → x .bits ≡ number (setBit d on (w .bits)) → x .old ≡ cond (anyBit (setBit d on (w .bits))) (w .old) 0
+  pub marked-is : (x : Mood) (q : Bool) → x .status ≡ number (setBit d on (w .bits)) → x .old ≡ cond (anyBit (setBit d on (w .bits))) (w .old) 0
       → q ≡ cond on (not (anyBit (w .bits))) (anyBit (setBit d on (w .bits))) → x .first ≡ cond q (cond (eqb (w .first) 0) (suc n) (w .first)) (w .first)
       → x ≡ mood (marked n (record { dir = d; at = k; on = on }) w)
   unfolding marked
   marked-is x q p o e f =
       let t : Bool = queues (record { dir = d; at = k; on = on }) (w .bits) in
       let g : x .first ≡ cond t (cond (eqb (w .first) 0) (suc n) (w .first)) (w .first) = rw (e ∙ sym (queue-is d k on (w .bits))) at f in
-      λ i. record { bits = p i; old = o i; first = g i }
+      λ i. record { status = p i; old = o i; first = g i }
 
 -- the first that queues is kept
 pub first-now : (n f : ℕ) (q : Bool) → q ≡ true → f ≡ 0 → n + 1 ≡ cond q (cond (eqb f 0) (suc n) f) f

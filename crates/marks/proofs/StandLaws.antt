@@ -33,38 +33,38 @@ marks-suc s k b (suc (suc (suc (suc d)))) h = absurd (omega arith)
 pub marks-next : (s k : ℕ) (b : Bits) (d : ℕ) → d < 4 → take (d + 1) (marksOf s k b) ≡ take d (marksOf s k b) ++ (markAt s k b d ∷ [])
 marks-next s k b d h = rw (add-one d) (marks-suc s k b d h)
 
-marks-append : (s : ℕ) (cs ds : List (ℕ × Bits)) → marks s (cs ++ ds) ≡ marks s cs ++ marks s ds
+marks-append : (s : ℕ) (changed ds : List (ℕ × Bits)) → marks s (changed ++ ds) ≡ marks s changed ++ marks s ds
 unfolding marks
 marks-append s [] ds = refl
-marks-append s (c ∷ cs) ds = ap (λ (r : List Mark). marksOf s (c .0) (c .1) ++ r) (marks-append s cs ds)
+marks-append s (c ∷ changed) ds = ap (λ (r : List Mark). marksOf s (c .0) (c .1) ++ r) (marks-append s changed ds)
 
-pub marks-split : (s i : ℕ) (cs : List (ℕ × Bits)) → marks s cs ≡ marks s (take i cs) ++ marks s (drop i cs)
-marks-split s i cs = ap (marks s) (sym (take-append-drop i cs)) ∙ marks-append s (take i cs) (drop i cs)
+pub marks-split : (s i : ℕ) (changed : List (ℕ × Bits)) → marks s changed ≡ marks s (take i changed) ++ marks s (drop i changed)
+marks-split s i changed = ap (marks s) (sym (take-append-drop i changed)) ∙ marks-append s (take i changed) (drop i changed)
 
 abbrev pub cellAt : List (ℕ × Bits) → ℕ → ℕ × Bits
-cellAt cs i = getD cs i (0, zero4)
+cellAt changed i = getD changed i (0, zero4)
 
-pub marks-more : (s i : ℕ) (cs : List (ℕ × Bits)) → i < length cs → marks s (take (i + 1) cs) ≡ marks s (take i cs) ++ marksOf s (cellAt cs i .0) (cellAt cs i .1)
+pub marks-more : (s i : ℕ) (changed : List (ℕ × Bits)) → i < length changed → marks s (take (i + 1) changed) ≡ marks s (take i changed) ++ marksOf s (cellAt changed i .0) (cellAt changed i .1)
 unfolding marks
-marks-more s i cs h = rw (add-one i, take-suc cs i (0, zero4) h) (marks-append s (take i cs) (cellAt cs i ∷ []))
+marks-more s i changed h = rw (add-one i, take-suc changed i (0, zero4) h) (marks-append s (take i changed) (cellAt changed i ∷ []))
 
-pub marks-length : (s : ℕ) (cs : List (ℕ × Bits)) → length (marks s cs) ≡ 4 * length cs
+pub marks-length : (s : ℕ) (changed : List (ℕ × Bits)) → length (marks s changed) ≡ 4 * length changed
 unfolding marks
 marks-length s [] = refl
-marks-length s (c ∷ cs) = let e = marks-length s cs in omega arith
+marks-length s (c ∷ changed) = let e = marks-length s changed in omega arith
 
 -- ---- the cells as they are lent
-pub keys-at : (cs : List (ℕ × Bits)) (i : ℕ) → getD (keys cs) i 0 ≡ cellAt cs i .0
+pub keys-at : (changed : List (ℕ × Bits)) (i : ℕ) → getD (keys changed) i 0 ≡ cellAt changed i .0
 unfolding keys
 keys-at [] i = refl
-keys-at (c ∷ cs) zero = refl
-keys-at (c ∷ cs) (suc i) = keys-at cs i
+keys-at (c ∷ changed) zero = refl
+keys-at (c ∷ changed) (suc i) = keys-at changed i
 
-pub numbers-at : (cs : List (ℕ × Bits)) (i : ℕ) → getD (values (numbered cs)) i 0 ≡ number (cellAt cs i .1)
+pub numbers-at : (changed : List (ℕ × Bits)) (i : ℕ) → getD (values (numbered changed)) i 0 ≡ number (cellAt changed i .1)
 unfolding number
 numbers-at [] i = refl
-numbers-at (c ∷ cs) zero = refl
-numbers-at (c ∷ cs) (suc i) = numbers-at cs i
+numbers-at (c ∷ changed) zero = refl
+numbers-at (c ∷ changed) (suc i) = numbers-at changed i
 
 -- ---- the keys
 pub stand-one : (m : Mark) (K : List ℕ) → stand (m ∷ []) K ≡ cond (m .on) (add (m .at) K) K
@@ -81,6 +81,6 @@ add-few k (x ∷ l) = go (eqb k x) (ltb k x) (add-few k l)
     go false true ih = omega arith
     go false false ih = omega arith
 
--- what stands on the way is among what stands in the end
-pub stand-part : (s i : ℕ) (cs : List (ℕ × Bits)) (K : List ℕ) → length (stand (marks s (take i cs)) K) ≤ length (stand (marks s cs) K)
-stand-part s i cs K = rw (marks-split s i cs, stand-append (marks s (take i cs)) (marks s (drop i cs)) K) (stand-more (marks s (drop i cs)) (stand (marks s (take i cs)) K))
+-- the candidates of some corners are among those of all
+pub stand-part : (s i : ℕ) (changed : List (ℕ × Bits)) (K : List ℕ) → length (stand (marks s (take i changed)) K) ≤ length (stand (marks s changed) K)
+stand-part s i changed K = rw (marks-split s i changed, stand-append (marks s (take i changed)) (marks s (drop i changed)) K) (stand-more (marks s (drop i changed)) (stand (marks s (take i changed)) K))

@@ -15,7 +15,7 @@ use Rattle.model.specs.Layer.{Mark}
 use Rattle.model.proofs.EdgeLaws.{cond-ap}
 use Rattle.model.proofs.MapLaws.{T→true}
 use Rattle.model.proofs.Phase1Points.{stays-any}
-use Rattle.marks.specs.Standing.{Small, Standing, marked, sooner, standing, stood}
+use Rattle.marks.specs.Standing.{Small, Standing, marked, maxMarks, sooner, standing, stood}
 
 -- ---- one mark after another
 pub standing-append : (n : ℕ) (ms ns : List Mark) (k : ℕ) (w : Standing) → standing n (ms ++ ns) k w ≡ standing (n + length ms) ns k (standing n ms k w)
@@ -34,18 +34,18 @@ cond-lt : (b : Bool) (x y z : ℕ) → x < z → y < z → cond b x y < z
 cond-lt true x y z h j = h
 cond-lt false x y z h j = j
 
-pub stood-small : (n : ℕ) (m : Mark) (k : ℕ) (w : Standing) → n < 1048575 → Small w → Small (stood n m k w)
+pub stood-small : (n : ℕ) (m : Mark) (k : ℕ) (w : Standing) → n + 1 < maxMarks → Small w → Small (stood n m k w)
 unfolding stood marked
 stood-small n m k w h s = go (eqb k (m .at))
   where
     go : (t : Bool) → Small (cond t (marked n m w) w)
     go true = (
       cond-lt (anyBit (setBit (m .dir) (m .on) (w .bits))) (w .old) 0 128 (s .0) (omega arith),
-      cond-lt (queues m (w .bits)) (cond (eqb (w .first) 0) (suc n) (w .first)) (w .first) 1048576 (cond-lt (eqb (w .first) 0) (suc n) (w .first) 1048576 (omega arith) (s .1)) (s .1),
+      cond-lt (queues m (w .bits)) (cond (eqb (w .first) 0) (suc n) (w .first)) (w .first) maxMarks (cond-lt (eqb (w .first) 0) (suc n) (w .first) maxMarks (omega arith) (s .1)) (s .1),
     )
     go false = s
 
-pub standing-small : (n : ℕ) (ms : List Mark) (k : ℕ) (w : Standing) → n + length ms ≤ 1048575 → Small w → Small (standing n ms k w)
+pub standing-small : (n : ℕ) (ms : List Mark) (k : ℕ) (w : Standing) → n + length ms < maxMarks → Small w → Small (standing n ms k w)
 unfolding standing
 standing-small n [] k w h s = s
 standing-small n (m ∷ ms) k w h s = standing-small (suc n) ms k (stood n m k w) (omega arith) (stood-small n m k w (omega arith) s)
@@ -212,7 +212,7 @@ unfolding ahead queueRun firstOf
 ahead-first n [] B p q d = refl
 ahead-first n (m ∷ ms) B p q d =
     ahead-cond (queues m (B (m .at)))
-    ∙ rw (ahead-first (suc n) ms B′ p q d, turned p, turned q, here p, here q)
+    ∙ rw (ahead-first (suc n) ms B′ p q d, flipped p, flipped q, here p, here q)
     (queued-step n (firstOf (suc n) ms p (B′ p)) (firstOf (suc n) ms q (B′ q)) (eqb p (m .at)) (eqb q (m .at)) (queues m (B (m .at))) (first-late (suc n) ms p (B′ p))
     (first-late (suc n) ms q (B′ q)) (λ x y. d (eqb→eq p (m .at) x ∙ sym (eqb→eq q (m .at) y))))
   where
@@ -226,8 +226,8 @@ ahead-first n (m ∷ ms) B p q d =
     ahead-cond true = refl
     ahead-cond false = refl
 
-    turned : (k : ℕ) → eqb (m .at) k ≡ eqb k (m .at)
-    turned k = go (ℕ-discrete k (m .at))
+    flipped : (k : ℕ) → eqb (m .at) k ≡ eqb k (m .at)
+    flipped k = go (ℕ-discrete k (m .at))
       where
         go : Dec (k ≡ m .at) → eqb (m .at) k ≡ eqb k (m .at)
         go (yes e) = rw e refl
@@ -240,7 +240,7 @@ ahead-first n (m ∷ ms) B p q d =
         go true e = rw (e tt) refl
         go false e = refl
 
--- Of two points that one stands before the other in the queue which was queued by an earlier mark.
+-- Of two points that one is earlier in the queue which was queued by an earlier mark.
 pub standing-ahead : (ms : List Mark) (B : ℕ → Bits) (p q a b : ℕ) → p ≢ q
     → ahead p q (queueRun ms B)
     ≡ sooner (standing 0 ms p (record { bits = B p; old = a; first = 0 }) .first) (standing 0 ms q (record { bits = B q; old = b; first = 0 }) .first)

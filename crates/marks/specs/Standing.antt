@@ -1,4 +1,4 @@
--- Between functions: what is kept of a key while the marks are made. Definitions only; proofs/StandingLaws.antt ties it to the closed form of `model`.
+-- Between functions: what is known of a candidate while the marks are made. Definitions only; proofs/StandingLaws.antt ties it to the closed form of `model`.
 use Prim.Native.Nat.{ℕ, suc, _+_, _*_, _<_}
 use mathlib.Core.Bool.{Bool, not, cond, _&&_, _||_}
 use mathlib.Core.List.{List, [], _∷_}
@@ -37,20 +37,23 @@ unfoldable pub standing : ℕ → List Mark → ℕ → Standing → Standing
 standing n [] k w = w
 standing n (m ∷ ms) k w = standing (suc n) ms k (stood n m k w)
 
--- queued before the other: told from the first marks that queued them
+-- queued before the other: by the numbers of the first marks that queued them
 abbrev pub sooner : ℕ → ℕ → Bool
 sooner a b = not (eqb a 0) && (eqb b 0 || ltb a b)
 
 -- ---- as the code has it: by the paper's numbers, and in one word
 abbrev pub mood : Standing → Mood
-mood w = record { bits = number (w .bits); old = w .old; first = w .first }
+mood w = record { status = number (w .bits); old = w .old; first = w .first }
 
 unfoldable pub word : Standing → ℕ
 word w = number (w .bits) + 16 * w .old + 2048 * w .first
 
--- what a word has room for
+-- what a word has room for: an old place, and more marks than a batch makes
+abbrev pub maxMarks : ℕ
+maxMarks = 1048576
+
 abbrev pub Small : Standing → Type 0
-Small w = (w .old < 128) × (w .first < 1048576)
+Small w = (w .old < 128) × (w .first < maxMarks)
 
 -- a word for each key
 unfoldable pub words : (ℕ → Standing) → List ℕ → List ℕ

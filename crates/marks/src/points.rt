@@ -1,20 +1,29 @@
 // The points after corners changed.
+use crate::gather::CANDIDATES;
+use crate::gather::ROOM;
 use crate::gather::gather;
 use crate::run::begin;
 use crate::run::mark_all;
+use sizes::CORNERS;
+use sizes::POINTS;
+use sizes::SHIFT;
 use table::copy::copy;
 ghost use mathlib.Core.Path.{_≡_};
 ghost use mathlib.Core.List.{List};
-ghost use Prim.Native.Nat.{ℕ, _<_, _≤_};
+ghost use Prim.Native.Nat.{ℕ, _≤_};
 ghost use lib.ListN.{length};
 ghost use Rattle.model.specs.ClosedForm.{stand};
 ghost use Rattle.model.specs.Corner.{Bits};
 ghost use Rattle.model.specs.Layer.{Points, marks};
-ghost use Rattle.model.specs.Limits.{maxPoints};
+ghost use Rattle.model.specs.Limits.{maxPoints, maxShift, needCorners};
 ghost use Rattle.model.specs.Maps.{AscL, keys};
-ghost use Rattle.table.specs.Listed.{Listed};
-ghost use Rattle.marks.specs.Marked.{Marking, ended, ending};
+ghost use Rattle.marks.specs.Marked.{Answered, Marking, Marks, Picks, ending};
 ghost use Rattle.marks.specs.Standing.{Standing, words};
+
+// What is answered where there are more points than there may be.
+const TOO_MANY: usize = POINTS + 1;
+
+const MOST_SHIFT: u64 = SHIFT as u64;
 
 // How many have a status.
 fn count(moods: &[u64]) -> usize
@@ -32,16 +41,15 @@ fn count(moods: &[u64]) -> usize
 }
 
 // Lists those that have a status.
-fn pick(ks: &[u64], moods: &[u64], out: &mut [u64], told: &mut [u64]) -> usize
-    requires { ⌜ length (now ks) ≡ length (now moods) ⌝ }
-    ensures { λ r. ⌜ ((f : ℕ → Standing) → now (moods .entry) ≡ words f (now (ks .entry)) → length (ending f (now (ks .entry))) ≤ length (now (out .entry)) → length (ending f (now (ks .entry))) ≤ length (now (told .entry))
-        → Listed (ending f (now (ks .entry))) (now (out .entry)) (now (out .exit)) (now (told .entry)) (now (told .exit)) r) ⌝ }
+fn pick(candidates: &[u64], moods: &[u64], out: &mut [u64], told: &mut [u64]) -> usize
+    requires { ⌜ length (now candidates) ≡ length (now moods) ⌝ }
+    ensures { λ r. ⌜ Picks (now (candidates .entry)) (now (moods .entry)) (now (out .entry)) (now (out .exit)) (now (told .entry)) (now (told .exit)) r ⌝ }
 {
     let mut n = 0;
     let mut i = 0;
-    while i < ks.len() {
+    while i < candidates.len() {
         if moods[i] % 16 != 0 && n < out.len() && n < told.len() {
-            out[n] = ks[i];
+            out[n] = candidates[i];
             told[n] = moods[i];
             n += 1;
         }
@@ -50,67 +58,68 @@ fn pick(ks: &[u64], moods: &[u64], out: &mut [u64], told: &mut [u64]) -> usize
     n
 }
 
-// The marks over the keys ks, whose words stand in `moods`.
+// The marks over the candidates, whose words are in `moods`.
 fn mark_keys(
     shift: u64,
     points: &[u64],
     statuses: &[u8],
     corners: &[u64],
-    bits: &[u8],
-    ks: &[u64],
+    altered: &[u8],
+    candidates: &[u64],
     moods: &mut [u64],
     out: &mut [u64],
     told: &mut [u64],
 ) -> usize
-    requires { ⌜ (shift ≤ 64) × (length (now points) ≤ length (now statuses)) × (length (now points) ≤ 64) × (length (now corners) ≤ length (now bits)) × (length (now corners) ≤ 2304) × (length (now ks) ≡ length (now moods)) ⌝ }
-    ensures { λ r. ⌜ ((ps : Points) (cs : List (ℕ × Bits)) → Marking shift ps cs (now (points .entry)) (now (statuses .entry)) (now (corners .entry)) (now (bits .entry)) → maxPoints ≤ length (now (out .entry)) → maxPoints ≤ length (now (told .entry))
-        → AscL 0 (now (ks .entry)) → now (ks .entry) ≡ stand (marks shift cs) (keys ps)
-        → (length (ended shift ps cs) ≤ maxPoints → Listed (ended shift ps cs) (now (out .entry)) (now (out .exit)) (now (told .entry)) (now (told .exit)) r)
-        × (maxPoints < length (ended shift ps cs) → (r ≡ 65) × (now (out .exit) ≡ now (out .entry)) × (now (told .exit) ≡ now (told .entry)))) ⌝ }
+    requires { ⌜ (shift ≤ maxShift) × (length (now points) ≤ length (now statuses)) × (length (now points) ≤ maxPoints)
+        × (length (now corners) ≤ length (now altered)) × (length (now corners) ≤ needCorners) × (length (now candidates) ≡ length (now moods)) ⌝ }
+    ensures { λ r. ⌜ ((ps : Points) (changed : List (ℕ × Bits))
+        → Marking shift ps changed (now (points .entry)) (now (statuses .entry)) (now (corners .entry)) (now (altered .entry))
+        → maxPoints ≤ length (now (out .entry)) → maxPoints ≤ length (now (told .entry))
+        → AscL 0 (now (candidates .entry)) → now (candidates .entry) ≡ stand (marks shift changed) (keys ps)
+        → Answered shift ps changed (now (out .entry)) (now (out .exit)) (now (told .entry)) (now (told .exit)) r) ⌝ }
 {
-    begin(points, statuses, ks, moods);
-    mark_all(ks, moods, corners, bits, shift);
-    if 64 < count(moods) {
-        return 65;
+    begin(points, statuses, candidates, moods);
+    mark_all(candidates, moods, corners, altered, shift);
+    if POINTS < count(moods) {
+        return TOO_MANY;
     }
-    pick(ks, moods, out, told)
+    pick(candidates, moods, out, told)
 }
 
-// Lists the points that there are in the end, each with its word (`Mood`), and returns how many they are; 65, and nothing
-// is written, where there are more than 64.
+// Lists the points that there are in the end, each with its word (`Mood`), and returns how many they are; TOO_MANY, and
+// nothing is written, where there are more than POINTS.
 pub fn mark_points(
     shift: u64,
     points: &[u64],
     statuses: &[u8],
     corners: &[u64],
-    bits: &[u8],
+    altered: &[u8],
     out: &mut [u64],
     told: &mut [u64],
 ) -> usize
-    ensures { λ r. ⌜ ((ps : Points) (cs : List (ℕ × Bits)) → Marking shift ps cs (now (points .entry)) (now (statuses .entry)) (now (corners .entry)) (now (bits .entry)) → maxPoints ≤ length (now (out .entry)) → maxPoints ≤ length (now (told .entry))
-        → (length (ended shift ps cs) ≤ maxPoints → Listed (ended shift ps cs) (now (out .entry)) (now (out .exit)) (now (told .entry)) (now (told .exit)) r)
-        × (maxPoints < length (ended shift ps cs) → (r ≡ 65) × (now (out .exit) ≡ now (out .entry)) × (now (told .exit) ≡ now (told .entry)))) ⌝ }
+    ensures { λ r. ⌜ Marks shift (now (points .entry)) (now (statuses .entry)) (now (corners .entry)) (now (altered .entry))
+        (now (out .entry)) (now (out .exit)) (now (told .entry)) (now (told .exit)) r ⌝ }
 {
-    if 64 < shift || 64 < points.len() || statuses.len() < points.len() {
-        return 65;
+    if MOST_SHIFT < shift || POINTS < points.len() || statuses.len() < points.len() {
+        return TOO_MANY;
     }
-    if 2304 < corners.len() || bits.len() < corners.len() {
-        return 65;
+    if CORNERS < corners.len() || altered.len() < corners.len() {
+        return TOO_MANY;
     }
-    let mut ks = [0u64; 132];
-    copy(points, &mut ks[..]);
-    let n = gather(&mut ks[..], points.len(), corners, bits, shift);
-    if 128 < n {
-        return 65;
+    let mut candidates = [0u64; ROOM];
+    copy(points, &mut candidates[..]);
+    let n = gather(&mut candidates[..], points.len(), corners, altered, shift);
+    if CANDIDATES < n {
+        return TOO_MANY;
     }
-    let mut moods = [0u64; 132];
+    let mut moods = [0u64; ROOM];
     mark_keys(
         shift,
         points,
         statuses,
         corners,
-        bits,
-        &ks[..n],
+        altered,
+        &candidates[..n],
         &mut moods[..n],
         out,
         told,

@@ -1,4 +1,4 @@
--- A number in decimal: its last digit stands behind those of a tenth of it; how many digits it has. Assumes nothing.
+-- A number in decimal: its last digit comes after those of a tenth of it; how many digits it has. Assumes nothing.
 use Prim.Native.Nat.{ℕ, zero, suc, _+_, _/_, _%_, _^_, _≤_, _<_}
 use native.Mathlib.Nat.{not-suc-le-zero, pow-suc}
 use native.Mathlib.Omega.{arith}
@@ -12,7 +12,7 @@ use borrow.Author.Tests.{ltb-false, lt-ltb, le-ltb}
 use Rattle.ieee.proofs.Tools.{lt-or-ge}
 use Rattle.model.specs.Listing.{digits, decimal}
 
--- what stands behind stays there
+-- what comes after stays there
 digits-behind : (f n : ℕ) (m l : List ℕ) → digits f n (m ++ l) ≡ digits f n m ++ l
 unfolding digits
 digits-behind zero n m l = refl

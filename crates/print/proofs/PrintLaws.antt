@@ -2,14 +2,15 @@
 use Prim.Native.Nat.{ℕ, _+_, _-_, _*_, _/_, _≤_, _<_}
 use native.Mathlib.Omega.{arith}
 use mathlib.Core.Path.{_≡_, refl}
-use mathlib.Core.Bool.{Bool, true, false, not, _&&_}
+use mathlib.Core.Bool.{Bool, true, false, not, true≢false, _&&_}
 use mathlib.Core.List.{List}
 use mathlib.Core.Logic.{⊎-elim}
 use lib.Dec.{leb, ltb}
 use lib.ListN.{length}
-use borrow.Author.Tests.{lt-ltb, le-ltb, lt-leb, le-leb, not-true}
+use borrow.Author.Tests.{lt-ltb, le-ltb, lt-leb, le-leb, leb-true}
 use Rattle.ieee.proofs.Tools.{lt-or-ge, not-both}
-use Rattle.print.specs.Printed.{Put, Printed, roomFor, lineRoom}
+use Rattle.print.specs.Printed.{Put, Printed, linesFit}
+use Rattle.model.specs.Limits.{lineRoom}
 
 module _ {roomy : Bool} {room at r : ℕ} {s t t′ : List ℕ} where
   pub printed-done : roomy ≡ true → Put s at r t t′ → length s ≤ room → Printed roomy room s at r t t′
@@ -20,33 +21,46 @@ module _ {roomy : Bool} {room at r : ℕ} {s t t′ : List ℕ} where
 
 -- ---- room for lines
 -- n lines fit if the rest of the room is as many lines
-pub fits-test : (length at n : ℕ) → at ≤ length → ltb ((length - at) / 80) n ≡ not (leb (at + lineRoom * n) length)
-fits-test length at n h =
+fits-test : (bytes at n : ℕ) → at ≤ bytes → ltb ((bytes - at) / lineRoom) n ≡ not (leb (at + lineRoom * n) bytes)
+fits-test bytes at n h =
     ⊎-elim
-    (λ q. rw (lt-ltb ((length - at) / 80) n q, lt-leb (at + lineRoom * n) length (omega arith)))
-    (λ q. rw (le-ltb ((length - at) / 80) n q, le-leb (at + lineRoom * n) length (omega arith)))
-    (lt-or-ge ((length - at) / 80) n)
+    (λ q. rw (lt-ltb ((bytes - at) / lineRoom) n q, lt-leb (at + lineRoom * n) bytes (omega arith)))
+    (λ q. rw (le-ltb ((bytes - at) / lineRoom) n q, le-leb (at + lineRoom * n) bytes (omega arith)))
+    (lt-or-ge ((bytes - at) / lineRoom) n)
 
--- the last of three tests fails
-and-last : (x y z : Bool) → z ≡ false → x && y && z ≡ false
-and-last true true z e = e
-and-last true false z e = refl
-and-last false y z e = refl
+-- of three tests the second fails, the last fails, or none does
+second-fails : (x z : Bool) → true ≡ not (x && false && z)
+second-fails true z = refl
+second-fails false z = refl
 
-module _ (a b c t : List ℕ) (at : ℕ) where
-  pub has-room : length a ≤ length b → length a ≤ length c → at + lineRoom * length a ≤ length t → roomFor a b c at t ≡ true
-  has-room h k l = rw (le-leb (length a) (length b) h, le-leb (length a) (length c) k, le-leb (at + lineRoom * length a) (length t) l)
+last-fails : (x y : Bool) → true ≡ not (x && y && false)
+last-fails true true = refl
+last-fails true false = refl
+last-fails false y = refl
 
-  module _ {room : ℕ} {s : List ℕ} where
-    pub lacks-lines : not (leb (at + lineRoom * length a) (length t)) ≡ true → Printed (roomFor a b c at t) room s at at t t
-    lacks-lines h = printed-not (and-last (leb (length a) (length b)) (leb (length a) (length c)) (leb (at + lineRoom * length a) (length t)) (not-true _ h)) refl refl
+none-fails : (x y z : Bool) → not (x && y && z) ≡ false → (x ≡ true) × (y ≡ true) × (z ≡ true)
+none-fails true true true e = (refl, refl, refl)
+none-fails true true false e = absurd (true≢false e)
+none-fails true false z e = absurd (true≢false e)
+none-fails false y z e = absurd (true≢false e)
 
-    pub lacks-second : length b < length a → Printed (roomFor a b c at t) room s at at t t
-    lacks-second h = printed-not (rw (lt-leb (length a) (length b) h)) refl refl
+module _ (n second third at bytes : ℕ) where
+  pub lacks-second : second < n → true ≡ not (linesFit n second third at bytes)
+  lacks-second h = rw (lt-leb n second h)
 
-    pub lacks-third : length c < length a → Printed (roomFor a b c at t) room s at at t t
-    lacks-third h = printed-not (third (leb (length a) (length b)) (leb (at + lineRoom * length a) (length t)) (lt-leb (length a) (length c) h)) refl refl
-      where
-        third : (x z : Bool) → leb (length a) (length c) ≡ false → x && leb (length a) (length c) && z ≡ false
-        third true z e = rw e
-        third false z e = refl
+  pub lacks-third : third < n → true ≡ not (linesFit n second third at bytes)
+  lacks-third h = rw (lt-leb n third h) (second-fails (leb n second) (leb (at + lineRoom * n) bytes))
+
+  pub lacks-place : bytes < at → true ≡ not (linesFit n second third at bytes)
+  lacks-place h = rw (lt-leb (at + lineRoom * n) bytes (omega arith)) (last-fails (leb n second) (leb n third))
+
+  pub lacks-rest : n ≤ second → n ≤ third → at ≤ bytes → ltb ((bytes - at) / lineRoom) n ≡ not (linesFit n second third at bytes)
+  lacks-rest h k l = rw (le-leb n second h, le-leb n third k) (fits-test bytes at n l)
+
+  pub fit : not (linesFit n second third at bytes) ≡ false → (n ≤ second) × (n ≤ third) × (at + lineRoom * n ≤ bytes)
+  fit e =
+      let p = none-fails (leb n second) (leb n third) (leb (at + lineRoom * n) bytes) e in
+      (leb-true n second (p .0), leb-true n third (p .1), leb-true (at + lineRoom * n) bytes (p .2))
+
+  pub fits : n ≤ second → n ≤ third → at + lineRoom * n ≤ bytes → linesFit n second third at bytes ≡ true
+  fits h k l = rw (le-leb n second h, le-leb n third k, le-leb (at + lineRoom * n) bytes l)

@@ -1,4 +1,4 @@
--- Text put into a list: one entry, one text behind another, one entry before what is put. Assumes nothing.
+-- Text put into a list: one entry, one text after another, one entry before what is put. Assumes nothing.
 use Prim.Native.Nat.{ℕ, suc, _+_, _≤_, _<_}
 use native.Mathlib.Numerals.{add-one}
 use native.Mathlib.Omega.{arith}
@@ -22,7 +22,7 @@ module _ {s t t′ : List ℕ} {a b : ℕ} (p : Put s a b t t′) (h : a ≤ len
   front-long : length (take a t ++ s) ≡ b
   front-long = simp (length-append, length-take-le a t h) (sym (p .end))
 
-  -- one text behind another
+  -- one text after another
   pub put-then : {u t″ : List ℕ} {c : ℕ} → Put u b c t′ t″ → Put (s ++ u) a c t t″
   put-then {u} {t″} {c} q =
       let x : take b t′ ≡ take a t ++ s = ap (take b) (p .is) ∙ take-at (take a t ++ s) (drop b t) b front-long in
@@ -31,14 +31,16 @@ module _ {s t t′ : List ℕ} {a b : ℕ} (p : Put s a b t t′) (h : a ≤ len
       let z : drop c t′ ≡ drop c t = rw (q .end) (sym (drop-drop k b t′) ∙ ap (drop k) y ∙ drop-drop k b t) in
       record { end = simp length-append (omega (arith, p .end, q .end)); is = q .is ∙ rw (x, z) (ap (λ (l : List ℕ). l ++ drop c t) (append-assoc (take a t) s u)) }
 
-  -- the same where the second text has two parts
+  -- the same where the second text has two parts, or three
   pub put-both : (u v : List ℕ) {t″ : List ℕ} {c : ℕ} → Put (u ++ v) b c t′ t″ → Put (s ++ u ++ v) a c t t″
   put-both u v q = rw (append-assoc s u v) (put-then q)
 
--- the seven parts of a line
-pub put-line : {s₁ s₂ s₃ s₄ s₅ s₆ s₇ t₀ t₁ t₂ t₃ t₄ t₅ t₆ t₇ : List ℕ} {a₀ a₁ a₂ a₃ a₄ a₅ a₆ a₇ : ℕ} → a₀ ≤ length t₀ → Put s₁ a₀ a₁ t₀ t₁ → Put s₂ a₁ a₂ t₁ t₂ → Put s₃ a₂ a₃ t₂ t₃
-    → Put s₄ a₃ a₄ t₃ t₄ → Put s₅ a₄ a₅ t₄ t₅ → Put s₆ a₅ a₆ t₅ t₆ → Put s₇ a₆ a₇ t₆ t₇ → Put (s₁ ++ s₂ ++ s₃ ++ s₄ ++ s₅ ++ s₆ ++ s₇) a₀ a₇ t₀ t₇
-put-line h p₁ p₂ p₃ p₄ p₅ p₆ p₇ = put-then (put-then (put-then (put-then (put-then (put-then p₁ h p₂) h p₃) h p₄) h p₅) h p₆) h p₇
+  pub put-all : (u v w : List ℕ) {t″ : List ℕ} {c : ℕ} → Put (u ++ v ++ w) b c t′ t″ → Put (s ++ u ++ v ++ w) a c t t″
+  put-all u v w q = rw (append-assoc s u v, append-assoc s (u ++ v) w) (put-then q)
+
+-- three texts
+pub put-three : {s u v t t′ t″ t‴ : List ℕ} {a b c d : ℕ} → a ≤ length t → Put s a b t t′ → Put u b c t′ t″ → Put v c d t″ t‴ → Put (s ++ u ++ v) a d t t‴
+put-three h p q r = put-then (put-then p h q) h r
 
 -- one entry before what is put
 pub put-before : {s t t′ : List ℕ} {a b : ℕ} (x : ℕ) → Put s (a + 1) b t t′ → a < length t → Put (x ∷ s) a b t (set t′ a x)

@@ -1,14 +1,16 @@
--- Lines one behind another, whatever a line is. Assumes nothing.
+-- Lines one after another, of any kind of line. Assumes nothing.
 use Prim.Native.Nat.{ℕ, zero, suc, _+_, _*_, _≤_, _<_}
 use native.Mathlib.Nat.{le-of-suc-le-suc, not-suc-le-zero}
 use native.Mathlib.Numerals.{add-one}
 use native.Mathlib.Omega.{arith}
 use mathlib.Core.Path.{_≡_, refl, sym, ap, _∙_}
+use mathlib.Core.Bool.{false, not}
 use mathlib.Core.List.{List, [], _∷_, _++_, append-assoc, append-nil}
 use lib.ListN.{getD, length, take}
 use lib.Seq.{take-all}
-use Rattle.print.specs.Printed.{Put, Printed, rows, roomFor, lineRoom}
-use Rattle.print.proofs.PrintLaws.{printed-done, has-room}
+use Rattle.print.specs.Printed.{PrintedRows, Put, linesFit, rows}
+use Rattle.model.specs.Limits.{lineRoom}
+use Rattle.print.proofs.PrintLaws.{fit, fits, printed-done}
 use Rattle.print.proofs.PutLaws.{put-none, put-then, put-long}
 
 module _ (line : ℕ → ℕ → ℕ → List ℕ) where
@@ -32,8 +34,10 @@ module _ (line : ℕ → ℕ → ℕ → List ℕ) where
     pub near : end ≤ at + lineRoom * i
     pub is : Put (rows line (take i a) b c) at end t t′
 
-  pub writing-none : (a b c t : List ℕ) (at : ℕ) → length a ≤ length b → length a ≤ length c → at + lineRoom * length a ≤ length t → Writing a b c t t at at 0
-  writing-none a b c t at h k l = record { inside = omega arith; wideB = h; wideC = k; room = l; long = refl; near = omega arith; is = put-none at t }
+  pub writing-none : (a b c t : List ℕ) (at : ℕ) → not (linesFit (length a) (length b) (length c) at (length t)) ≡ false → Writing a b c t t at at 0
+  writing-none a b c t at e =
+      let f = fit (length a) (length b) (length c) at (length t) e in
+      record { inside = omega arith; wideB = f .0; wideC = f .1; room = f .2; long = refl; near = omega arith; is = put-none at t }
 
   module _ {a b c t t′ : List ℕ} {at end i : ℕ} (w : Writing a b c t t′ at end i) where
     -- there is room for one more line
@@ -57,8 +61,8 @@ module _ (line : ℕ → ℕ → ℕ → List ℕ) where
           is = rw (add-one i, rows-suc a b c i h (omega arith) (omega arith)) (put-then (w .is) (omega arith) p);
         }
 
-    pub writing-done : length a ≤ i → Printed (roomFor a b c at t) (lineRoom * length a) (rows line a b c) at end t t′
+    pub writing-done : length a ≤ i → PrintedRows line a b c at end t t′
     writing-done h =
         let p : Put (rows line a b c) at end t t′ = rw (take-all i a h) at (w .is) in
         let e : i ≡ length a = omega (arith, w .inside) in
-        printed-done (has-room a b c t at (w .wideB) (w .wideC) (w .room)) p (omega (arith, p .end, w .near))
+        printed-done (fits (length a) (length b) (length c) at (length t) (w .wideB) (w .wideC) (w .room)) p (omega (arith, p .end, w .near))

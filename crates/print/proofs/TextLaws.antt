@@ -34,7 +34,7 @@ module _ {s t t′ : List ℕ} {at i : ℕ} (w : Copying s t t′ at i) where
   pub copying-done : length s ≤ i → Put s at (at + i) t t′
   copying-done h = rw (take-all i s h) at (w .is)
 
--- the digits behind place i are put, those of `rest` are to come
+-- the digits after place i are put, those of `rest` are to come
 pub record Numbering (n at end : ℕ) (t t′ : List ℕ) (i rest : ℕ) : Type 0 where
   pub tail : List ℕ
   pub all : decimal n ≡ decimal rest ++ tail

@@ -1,10 +1,12 @@
 // The first line of a listing: `cells .. corners .. points .. edges .. open .. blocks ..`.
 use crate::bytes::put_byte;
 use crate::bytes::put_labelled;
+use crate::room::FIRST;
 ghost use lib.Dec.{leb};
 ghost use lib.ListN.{length};
 ghost use Rattle.model.specs.Listing.{countsLine};
-ghost use Rattle.print.specs.Printed.{Printed, firstRoom};
+ghost use Rattle.print.specs.Printed.{Printed};
+ghost use Rattle.model.specs.Limits.{firstRoom};
 
 pub struct Counts {
     pub cells: u64,
@@ -20,7 +22,7 @@ pub fn put_counts(out: &mut [u8], counts: Counts) -> usize
     ensures { λ r. ⌜ Printed (leb firstRoom (length (now (out .entry)))) firstRoom
         (countsLine (counts .cells) (counts .corners) (counts .points) (counts .edges) (counts .open) (counts .blocks)) 0 r (now (out .entry)) (now (out .exit)) ⌝ }
 {
-    if out.len() < 256 {
+    if out.len() < FIRST {
         return 0;
     }
     let a = put_labelled(out, 0, b"cells ", counts.cells);

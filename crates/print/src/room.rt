@@ -1,16 +1,25 @@
 // Whether there is room for lines.
 ghost use mathlib.Core.Path.{_≡_};
 ghost use mathlib.Core.Bool.{not};
-ghost use Prim.Native.Nat.{_+_, _*_};
-ghost use lib.Dec.{leb};
-ghost use Rattle.print.specs.Printed.{lineRoom};
+ghost use Rattle.print.specs.Printed.{linesFit};
 
-// Whether n lines from the place `at` on may not fit into `length` bytes.
-pub(crate) fn lacks_room(length: usize, at: usize, n: usize) -> bool
-    ensures { λ r. ⌜ r ≡ not (leb (at + lineRoom * n) length) ⌝ }
+// Bytes for which there has to be room: of a listing's first line, and of any other.
+pub(crate) const FIRST: usize = 256;
+
+pub(crate) const LINE: usize = 80;
+
+// Whether n lines from the place `at` on may not fit into `length` bytes, or the second or third column has fewer than n entries.
+pub(crate) fn lacks_room(length: usize, at: usize, n: usize, second: usize, third: usize) -> bool
+    ensures { λ r. ⌜ r ≡ not (linesFit n second third at length) ⌝ }
 {
+    if second < n {
+        return true;
+    }
+    if third < n {
+        return true;
+    }
     if length < at {
         return true;
     }
-    (length - at) / 80 < n
+    (length - at) / LINE < n
 }

@@ -3,10 +3,15 @@ use Prim.Native.Nat.{ℕ, _≤_}
 use mathlib.Core.Path.{_≡_, refl, sym}
 use mathlib.Core.Bool.{false}
 use mathlib.Core.List.{List, [], _∷_}
+use lib.ListN.{length}
 use borrow.Author.Tests.{le-ltb}
+use native.Mathlib.Nat.{le-refl}
 use Rattle.answers.proofs.PassedLaws.{passed}
 use Rattle.answers.proofs.RefuseLaws.{due-none}
 use Rattle.answers.specs.Asking.{refuseMap}
+use Rattle.answers.specs.Walks.{tableNeeds}
+use Rattle.held.specs.Pairs.{pairPlaces}
+use Rattle.model.specs.Limits.{maxCells, maxPoints}
 use Rattle.model.specs.Map as model
 use Rattle.model.specs.Refusal.{badRadius, badSize, short}
 use Rattle.held.proofs.LayerLaws.{layer-few}
@@ -27,8 +32,23 @@ module _ (lent : List (ℕ × ℕ)) (m : Map) where
   pub call-accepted : refuseMap false m false false ≡ 0 → Enough lent → refuseMap (short lent) m false false ≡ 0
   call-accepted e h = rw (not-short lent h) e
 
+-- ---- tables that are as long as their needs: those that a call has of its own
+pub record Whole (t : Tables) : Type 0 where
+  pub cells : length (t .cells) ≡ maxCells
+  pub points : length (t .points) ≡ maxPoints
+  pub statuses : length (t .statuses) ≡ maxPoints
+  pub blockers : length (t .blockers) ≡ maxPoints
+  pub pairs : length (t .pairs) ≡ pairPlaces
+
+pub own-enough : Enough (tableNeeds maxCells maxPoints maxPoints maxPoints pairPlaces [])
+own-enough = (le-refl maxCells, (le-refl maxPoints, (le-refl maxPoints, (le-refl maxPoints, (le-refl pairPlaces, tt)))))
+
+pub whole-enough : (t : Tables) (l : List (ℕ × ℕ)) → Whole t → Enough l → Enough (tableNeeds (length (t .cells)) (length (t .points)) (length (t .statuses)) (length (t .blockers)) (length (t .pairs)) l)
+whole-enough t l w e =
+    rw (w .cells, w .points, w .statuses, w .blockers, w .pairs) (le-refl maxCells, (le-refl maxPoints, (le-refl maxPoints, (le-refl maxPoints, (le-refl pairPlaces, e)))))
+
 -- a map that is held, with a good cell size and radius, is accepted
 pub held-accepted : (m : Map) (t : Tables) (M : model.Map) → Holds m t M → badSize (M .size) ≡ false → badRadius (M .size) (M .layer .radius) ≡ false → refuseMap false m false false ≡ 0
 held-accepted m t M h f g =
-    let room : m .cells ≤ 1024 = rw (h .cells .count) (h .cells .room) in
+    let room : m .cells ≤ maxCells = rw (h .cells .count) (h .cells .room) in
     sym (due-none false m false false refl (rw (h .size) f) (rw (h .size, h .radius) g) refl room (layer-few (h .layer)) refl)

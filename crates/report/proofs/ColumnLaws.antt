@@ -11,7 +11,7 @@ use Rattle.model.specs.Good.{Good}
 use Rattle.model.specs.Layer.{Edges, Layer, Pair, Points, edge, pairOf, pairs, pairsFrom}
 use Rattle.model.specs.Listing.{pairLines, pointLines}
 use Rattle.model.specs.Maps.{keys}
-use Rattle.print.specs.Printed.{blockOf, pairRows, pointRows}
+use Rattle.print.specs.Printed.{blockOf, pairRow, pointRow, rows}
 use Rattle.held.specs.Codes.{AllNamed, Named, NamedPair, blockCode, codes}
 
 -- a blocker is told by its code
@@ -21,7 +21,7 @@ coded (some zero) h = absurd (omega arith)
 coded (some (suc k)) h = refl
 
 -- ---- points
-pub point-rows : (ps : Points) → AllNamed (blocksOf ps) → pointRows (keys ps) (statusesOf ps) (codes (blocksOf ps)) ≡ pointLines ps
+pub point-rows : (ps : Points) → AllNamed (blocksOf ps) → rows pointRow (keys ps) (statusesOf ps) (codes (blocksOf ps)) ≡ pointLines ps
 unfolding keys pointLines
 point-rows [] h = refl
 point-rows (p ∷ ps) h = rw (coded (p .1 .block) (h .0), point-rows ps (h .1)) refl
@@ -31,7 +31,7 @@ abbrev pub PairsTold : List Pair → Type 0
 PairsTold [] = Unit {0}
 PairsTold (p ∷ l) = Named (p .block) × PairsTold l
 
-pub pair-rows : (l : List Pair) → PairsTold l → pairRows (lessers l) (greaters l) (pairBlocks l) ≡ pairLines l
+pub pair-rows : (l : List Pair) → PairsTold l → rows pairRow (lessers l) (greaters l) (pairBlocks l) ≡ pairLines l
 unfolding pairLines
 pair-rows [] h = refl
 pair-rows (p ∷ l) h = rw (coded (p .block) (h .0), pair-rows l (h .1)) refl

@@ -1,36 +1,27 @@
 -- Any two outcomes that a listing's contract permits are equal. Assumes nothing.
 use Prim.Native.Nat.{ℕ}
-use mathlib.Core.Path.{_≡_, refl}
-use mathlib.Core.Bool.{false}
-use mathlib.Core.List.{List, [], _∷_}
+use mathlib.Core.Path.{_≡_, refl, sym, _∙_}
+use mathlib.Core.List.{List}
+use mathlib.Core.Logic.{⊎-elim}
 use lib.ListN.{length}
 use Rattle.answers.proofs.ListingLaws.{Settled, list-one}
-use Rattle.answers.specs.Asking.{HoldsSome, Listing, Output, refuseMap}
 use Rattle.answers.specs.declared.judge.Count.{Count}
-use Rattle.model.specs.Limits.{maxCells, maxPoints}
-use Rattle.model.specs.Listing.{listed}
-use Rattle.model.specs.Map as model
-use Rattle.model.specs.MapFile.{done}
-use Rattle.model.specs.Refusal.{short}
-use Rattle.held.specs.Pairs.{pairPlaces}
+use Rattle.ieee.proofs.Tools.{lt-or-ge}
 use Rattle.held.specs.declared.map.Map.{Map}
-use Rattle.report.specs.Reported.{needListing}
+use Rattle.report.specs.Filed.{Listed}
+use Rattle.report.specs.Reported.{MapHeld, MapListed, mapDue}
+use Rattle.model.specs.Limits.{needListing}
 
 -- ---- `list_map`, of a map that is held, or that is refused whatever the tables hold
 module _ (m : Map) (cells points statuses blockers pairs out : List ℕ) where
-  abbrev pub mapDue : ℕ
-  mapDue =
-      refuseMap
-      (short ((length cells, maxCells) ∷ (length points, maxPoints) ∷ (length statuses, maxPoints) ∷ (length blockers, maxPoints) ∷ (length pairs, pairPlaces) ∷ (length out, needListing) ∷ [])) m
-      false false
-
-  abbrev pub MapHeld : model.Map → Type 0
-  MapHeld = HoldsSome m (λ t. (t .cells ≡ cells) × (t .points ≡ points) × (t .statuses ≡ statuses) × (t .blockers ≡ blockers) × (t .pairs ≡ pairs))
-
-  abbrev pub mapOut : List ℕ → List Output
-  mapOut o = record { was = out; is = o; wanted = λ M. listed (done M) } ∷ []
-
-  pub list-map-one : (o₁ o₂ : List ℕ) (r q : Count) → Listing mapDue MapHeld (mapOut o₁) r → Listing mapDue MapHeld (mapOut o₂) q → Settled mapDue MapHeld → (r ≡ q) × (o₁ ≡ o₂)
+  pub list-map-one : (o₁ o₂ : List ℕ) (r q : Count) → MapListed m cells points statuses blockers pairs out o₁ r → MapListed m cells points statuses blockers pairs out o₂ q
+      → Settled (mapDue m cells points statuses blockers pairs out) (MapHeld m cells points statuses blockers pairs out) → (r ≡ q) × (o₁ ≡ o₂)
   list-map-one o₁ o₂ r q u v s =
-      let e = list-one mapDue MapHeld _ _ _ _ r q (refl, refl, tt) u v s in
+      let e = list-one (mapDue m cells points statuses blockers pairs out) (MapHeld m cells points statuses blockers pairs out) _ _ _ _ r q (refl, refl, tt) u v s in
       (e .0, e .1 .0)
+
+-- ---- `list_file`
+pub list-file-one : (b o o₁ o₂ : List ℕ) (r q : Count) → Listed b o o₁ r → Listed b o o₂ q → (r ≡ q) × (o₁ ≡ o₂)
+list-file-one b o o₁ o₂ r q u v =
+    ⊎-elim (λ h. (u .short h .0 ∙ sym (v .short h .0), u .short h .1 ∙ sym (v .short h .1))) (λ h. (u .done h .0 ∙ sym (v .done h .0), u .done h .1 ∙ sym (v .done h .1)))
+    (lt-or-ge (length o) needListing)

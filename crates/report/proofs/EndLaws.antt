@@ -13,7 +13,8 @@ use Rattle.model.specs.Listing.{listed, listing, refusedLine}
 use Rattle.model.specs.Map as model
 use Rattle.model.specs.MapFile.{Reading, done, readFile, refused}
 use Rattle.model.specs.Refusal.{short}
-use Rattle.print.specs.Printed.{Printed, lineRoom}
+use Rattle.print.specs.Printed.{Printed}
+use Rattle.model.specs.Limits.{lineRoom, needListing}
 use Rattle.held.proofs.RoomLaws.{Enough}
 use Rattle.held.specs.Holds.{Holds, Tables}
 use Rattle.held.specs.declared.map.Map.{Map}
@@ -34,10 +35,10 @@ ended-done (suc n) e t s h q = absurd (omega arith)
 
 -- ---- what is written
 module _ (b o : List ℕ) where
-  pub list-short : (r : Count) → length o < 166656 → r ≡ refusedWith 9 → Listed b o o r
+  pub list-short : (r : Count) → length o < needListing → r ≡ refusedWith 9 → Listed b o o r
   list-short r h e = record { short = λ k. (e, refl); done = λ k. absurd (omega arith) }
 
-  module _ (room : 166656 ≤ length o) (o′ : List ℕ) where
+  module _ (room : needListing ≤ length o) (o′ : List ℕ) where
     list-done : (r : Count) (s : Reading) → readFile b ≡ s → r .refusal ≡ 0 → r .count ≡ length (listed s) → o′ ≡ listed s ++ drop (r .count) o → Listed b o o′ r
     unfolding listing
     list-done r s e z c w = record { short = λ k. absurd (omega arith); done = λ k. rw e (same r z c, w ∙ rw c refl) }
@@ -46,7 +47,7 @@ module _ (b o : List ℕ) where
         same r z c = rw (z, c) refl
 
     pub list-refused : (n f k : ℕ) → readFile b ≡ refused n f → Printed (leb lineRoom (length o)) lineRoom (refusedLine n f) 0 k o o′ → Listed b o o′ (record { refusal = 0; count = k })
-    list-refused n f k e x = let p = put-front (x .done (le-leb 80 (length o) (omega arith)) .0) in list-done (record { refusal = 0; count = k }) (refused n f) e refl (p .0) (p .1)
+    list-refused n f k e x = let p = put-front (x .done (le-leb lineRoom (length o) (omega arith)) .0) in list-done (record { refusal = 0; count = k }) (refused n f) e refl (p .0) (p .1)
 
     pub list-read : (m : Map) (t : Tables) (lent : List (ℕ × ℕ)) (Hold : model.Map → Type 0) (r : Count) → ((M : model.Map) × (readFile b ≡ done M) × Holds m t M) → Enough lent
         → ((M : model.Map) → Holds m t M → Hold M) → Listing (refuseMap (short lent) m false false) Hold (record { was = o; is = o′; wanted = λ M. listed (done M) } ∷ []) r

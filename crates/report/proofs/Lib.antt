@@ -2,7 +2,6 @@
 pub mod CallLaws
 pub mod ColumnLaws
 pub mod Determinate
-pub mod DeterminateFile
 pub mod EndLaws
 pub mod FileLaws
 pub mod MapLaws

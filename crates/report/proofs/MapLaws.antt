@@ -18,30 +18,28 @@ use Rattle.model.specs.Answers.{allPairs, corners, openPairs}
 use Rattle.model.specs.Answers as asked
 use Rattle.model.specs.Blocks.{blockCount}
 use Rattle.model.specs.Layer.{Pair, Points}
+use Rattle.model.specs.Limits.{firstRoom, lineRoom, maxCells, maxPoints, needListing, needPairs}
 use Rattle.model.specs.Listing.{countsLine, listed, summary}
 use Rattle.model.specs.Map as model
 use Rattle.model.specs.MapFile.{done}
 use Rattle.model.specs.Maps.{AscL, keys}
-use Rattle.print.proofs.PrintLaws.{has-room}
+use Rattle.print.proofs.PrintLaws.{fits}
 use Rattle.print.proofs.PutLaws.{put-long, put-then}
-use Rattle.print.specs.Printed.{Printed, Put, firstRoom, lineRoom, pairRows, pointRows, roomFor}
+use Rattle.print.specs.Printed.{Printed, PrintedRows, Put, linesFit, pairRow, pointRow}
 use Rattle.print.specs.declared.counts.Counts.{Counts}
 use Rattle.held.specs.Codes.{codes}
 use Rattle.table.proofs.ListedLaws.{keys-length}
 use Rattle.held.proofs.NamedLaws.{blocks-named}
 use Rattle.held.specs.Holds.{Holds, Tables}
 use Rattle.held.specs.declared.map.Map.{Map}
+use Rattle.report.specs.Reported.{countsOf}
 use Rattle.report.proofs.ColumnLaws.{lessers-length, pair-rows, pairs-told, point-rows}
 
 -- ---- counts
--- those of the map M, with so many points and pairs
-abbrev pub countsOf : model.Map → ℕ → ℕ → Counts
-countsOf M points edges = record { cells = length (M .cells); corners = length (corners M); points = points; edges = edges; «open» = length (openPairs M); blocks = blockCount (M .cells) }
-
 module _ (m : Map) (t : Tables) (M : model.Map) (h : Holds m t M) (cells : List ℕ) (e : t .cells ≡ cells) where
   pub counted : (a b c points edges : ℕ) → a ≡ length (corners M) → b ≡ length (openPairs M)
-      → (length (take (m .cells) cells) ≤ 1024 → AscL 0 (take (m .cells) cells) → c ≡ blockCount (take (m .cells) cells))
-      → _≡_ {A = Counts} (record { cells = m .cells; corners = a; points = points; edges = edges; «open» = b; blocks = c }) (countsOf M points edges)
+      → (length (take (m .cells) cells) ≤ maxCells → AscL 0 (take (m .cells) cells) → c ≡ blockCount (take (m .cells) cells))
+      → _≡_ {A = Counts} (record { cells = m .cells; corners = a; points = points; edges = edges; «open» = b; blocks = c }) (countsOf points edges M)
   counted a b c points edges f g k =
       let u : take (m .cells) cells ≡ M .cells = ap (take (m .cells)) (sym e) ∙ holds-cells (t .cells) (m .cells) (M .cells) (h .cells) in
       let v : c ≡ blockCount (M .cells) = rw u at k (h .cells .room) (h .cells .order) in
@@ -51,27 +49,28 @@ module _ (m : Map) (t : Tables) (M : model.Map) (h : Holds m t M) (cells : List 
 pub put-front : {s o o′ : List ℕ} {c : ℕ} → Put s 0 c o o′ → (c ≡ length s) × (o′ ≡ s ++ drop c o)
 put-front p = (p .end ∙ zero-add _, p .is)
 
-module _ {s u v o o₁ o₂ o₃ : List ℕ} {a b c : ℕ} (ks ss bs ls gs qs : List ℕ) (room : 166656 ≤ length o) where
-  printed-all : length ks ≤ 64 → length ks ≤ length ss → length ks ≤ length bs → length ls ≤ 2016 → length ls ≤ length gs → length ls ≤ length qs
-      → Printed (leb firstRoom (length o)) firstRoom s 0 a o o₁ → Printed (roomFor ks ss bs a o₁) (lineRoom * length ks) u a b o₁ o₂ → Printed (roomFor ls gs qs b o₂) (lineRoom * length ls) v b c o₂ o₃
+module _ {s u v o o₁ o₂ o₃ : List ℕ} {a b c : ℕ} (ks ss bs ls gs qs : List ℕ) (room : needListing ≤ length o) where
+  printed-all : length ks ≤ maxPoints → length ks ≤ length ss → length ks ≤ length bs → length ls ≤ needPairs → length ls ≤ length gs → length ls ≤ length qs
+      → Printed (leb firstRoom (length o)) firstRoom s 0 a o o₁ → Printed (linesFit (length ks) (length ss) (length bs) a (length o₁)) (lineRoom * length ks) u a b o₁ o₂
+      → Printed (linesFit (length ls) (length gs) (length qs) b (length o₂)) (lineRoom * length ls) v b c o₂ o₃
       → (c ≡ length (s ++ u ++ v)) × (o₃ ≡ s ++ u ++ v ++ drop c o)
   printed-all hk hs hb hl hg hq x y z =
-      let p = x .done (le-leb 256 (length o) (omega arith)) in
+      let p = x .done (le-leb firstRoom (length o) (omega arith)) in
       let e₁ = p .0 .end in
       let l₁ = p .1 in
       let n₁ = put-long (p .0) (omega arith) in
-      let q = y .done (has-room ks ss bs o₁ a hs hb (omega arith)) in
+      let q = y .done (fits (length ks) (length ss) (length bs) a (length o₁) hs hb (omega arith)) in
       let e₂ = q .0 .end in
       let l₂ = q .1 in
       let n₂ = put-long (q .0) (omega arith) in
-      let r = z .done (has-room ls gs qs o₂ b hg hq (omega arith)) in
+      let r = z .done (fits (length ls) (length gs) (length qs) b (length o₂) hg hq (omega arith)) in
       let w : 0 ≤ length o = omega arith in
       put-front (put-then (put-then (p .0) w (q .0)) w (r .0))
 
--- ---- the pairs' columns, at the front of arrays of 2,016
+-- ---- the pairs' columns, at the front of arrays
 -- all of them are listed
-fits : (l t t′ : List ℕ) (n : ℕ) → n ≡ length l → t′ ≡ l ++ drop n t → length t ≡ 2016 → length t′ ≡ 2016 → n ≤ 2016
-fits l t t′ n c e h h′ =
+all-fit : (l t t′ : List ℕ) (n : ℕ) → n ≡ length l → t′ ≡ l ++ drop n t → length t ≡ needPairs → length t′ ≡ needPairs → n ≤ needPairs
+all-fit l t t′ n c e h h′ =
     let x : length t′ ≡ length l + length (drop n t) = ap length e ∙ length-append l (drop n t) in
     omega (arith, length-drop n t)
 
@@ -86,27 +85,25 @@ PairsAre M n zeros lesser greater blocks =
     (record { was = zeros; is = lesser; wanted = λ M. lessers (allPairs M) } ∷ record { was = zeros; is = greater; wanted = λ M. greaters (allPairs M) }
     ∷ record { was = zeros; is = blocks; wanted = λ M. pairBlocks (allPairs M) } ∷ [])
 
-module _ (M : model.Map) (n : ℕ) (zeros lesser greater blocks : List ℕ) (long : length zeros ≡ 2016) (same : length lesser ≡ 2016) (w : PairsAre M n zeros lesser greater blocks) where
-  all-few : n ≤ 2016
-  all-few = fits (lessers (allPairs M)) zeros lesser n (w .0) (w .1) long same
+module _ (M : model.Map) (n : ℕ) (zeros lesser greater blocks : List ℕ) (long : length zeros ≡ needPairs) (same : length lesser ≡ needPairs) (w : PairsAre M n zeros lesser greater blocks) where
+  all-few : n ≤ needPairs
+  all-few = all-fit (lessers (allPairs M)) zeros lesser n (w .0) (w .1) long same
 
-  pub all-clamped : (edges : ℕ) → ((2016 < n) × (edges ≡ 2016)) ⊎ ((n ≤ 2016) × (edges ≡ n)) → edges ≡ n
+  pub all-clamped : (edges : ℕ) → ((needPairs < n) × (edges ≡ needPairs)) ⊎ ((n ≤ needPairs) × (edges ≡ n)) → edges ≡ n
   all-clamped edges = ⊎-elim (λ x. let f = all-few in let g = x .0 in let e = x .1 in omega arith) (λ x. x .1)
 
 module _ (m : Map) (t : Tables) (M : model.Map) (h : Holds m t M) (points statuses blockers : List ℕ) (p : t .points ≡ points) (s : t .statuses ≡ statuses) (b : t .blockers ≡ blockers) where
-  module _ (n edges : ℕ) (zeros lesser greater blocks : List ℕ) (long : length zeros ≡ 2016) (same : length lesser ≡ 2016) (w : PairsAre M n zeros lesser greater blocks) (came : edges ≡ n) where
-    pub map-written : (counts : Counts) (o o₁ o₂ o₃ : List ℕ) (i j k : ℕ) → 166656 ≤ length o → counts ≡ countsOf M (m .points) edges
+  module _ (n edges : ℕ) (zeros lesser greater blocks : List ℕ) (long : length zeros ≡ needPairs) (same : length lesser ≡ needPairs) (w : PairsAre M n zeros lesser greater blocks) (came : edges ≡ n) where
+    pub map-written : (counts : Counts) (o o₁ o₂ o₃ : List ℕ) (i j k : ℕ) → needListing ≤ length o → counts ≡ countsOf (m .points) edges M
         → Printed (leb firstRoom (length o)) firstRoom (countsLine (counts .cells) (counts .corners) (counts .points) (counts .edges) (counts .«open») (counts .blocks)) 0 i o o₁
-        → Printed (roomFor (take (m .points) points) (take (m .points) statuses) (take (m .points) blockers) i o₁) (lineRoom * length (take (m .points) points))
-        (pointRows (take (m .points) points) (take (m .points) statuses) (take (m .points) blockers)) i j o₁ o₂
-        → Printed (roomFor (take edges lesser) (take edges greater) (take edges blocks) j o₂) (lineRoom * length (take edges lesser))
-        (pairRows (take edges lesser) (take edges greater) (take edges blocks)) j k o₂ o₃
+        → PrintedRows pointRow (take (m .points) points) (take (m .points) statuses) (take (m .points) blockers) i j o₁ o₂
+        → PrintedRows pairRow (take edges lesser) (take edges greater) (take edges blocks) j k o₂ o₃
         → Written M k (record { was = o; is = o₃; wanted = λ M. listed (done M) } ∷ [])
     unfolding summary asked.points allPairs
     map-written counts o o₁ o₂ o₃ i j k room c x y z =
         let ps : Points = M .layer .points in
         let l : List Pair = allPairs M in
-        let few : length ps ≤ 64 = h .layer .room in
+        let few : length ps ≤ maxPoints = h .layer .room in
         let kk = keys-length ps in
         let ks = statuses-length ps in
         let kb = codes-count ps in

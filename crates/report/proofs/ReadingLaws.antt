@@ -24,7 +24,7 @@ Fit radius R = badSize (R .cellSize) ≡ false
 Fit batches R = Accepted (R .map)
 Fit end R = Accepted (R .map)
 
--- the reading behind the field f
+-- the reading after the field f
 abbrev pub Goes : ℕ → Reading → Type 0
 Goes f (more R b) = (R .field ≡ suc f) × Fit (R .expected) R
 Goes f (refused k g) = k ≡ 0 → ⊥

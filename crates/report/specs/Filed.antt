@@ -9,7 +9,7 @@ use Rattle.held.specs.Holds.{Holds, Tables}
 use Rattle.model.specs.Listing.{listing}
 use Rattle.model.specs.Map as model
 use Rattle.model.specs.MapFile.{Reading, done, refused}
-use Rattle.report.specs.Reported.{needListing}
+use Rattle.model.specs.Limits.{needListing}
 use Rattle.report.specs.declared.file.Ended.{Ended}
 
 -- the bytes b of a map file were listed to t, which became t′

@@ -4,33 +4,35 @@ use answers::pairs::open_pairs;
 use blocks::count::count_blocks;
 use held::map::Map;
 use print::counts::Counts;
+use sizes::CELLS;
+use sizes::LISTED;
 ghost use mathlib.Core.Path.{_≡_};
-ghost use mathlib.Core.Bool.{false};
 ghost use Prim.Native.Nat.{_≤_};
 ghost use lib.ListN.{length};
-ghost use Rattle.answers.specs.Asking.{HoldsSome, refuseMap};
 ghost use Rattle.model.specs.Answers.{corners, openPairs};
-ghost use Rattle.model.specs.Blocks.{blockCount};
-ghost use Rattle.model.specs.Map as model;
+ghost use Rattle.model.specs.Limits.{maxCells, maxPoints};
+ghost use Rattle.held.specs.Pairs.{pairPlaces};
+ghost use Rattle.report.specs.Reported.{Tells, countsOf};
 
 // How many cells have a corner.
 fn count_corners(map: Map, cells: &[u64]) -> usize
-    requires { ⌜ 1024 ≤ length (now cells) ⌝ }
-    ensures { λ r. ⌜ ((M : model.Map) → HoldsSome map (λ t. t .cells ≡ now (cells .entry)) M → refuseMap false map false false ≡ 0 → r ≡ length (corners M)) ⌝ }
+    requires { ⌜ maxCells ≤ length (now cells) ⌝ }
+    ensures { λ r. ⌜ Tells map (λ t. t .cells ≡ now (cells .entry)) (λ M. length (corners M)) r ⌝ }
 {
-    let mut keys = [0u64; 1024];
-    let mut statuses = [0u8; 1024];
+    let mut keys = [0u64; CELLS];
+    let mut statuses = [0u8; CELLS];
     let found = corner_cells(map, cells, &mut keys[..], &mut statuses[..]);
     found.count
 }
 
 // How many pairs are open.
 fn count_open(map: Map, points: &[u64], blockers: &[u64], pairs: &[u64]) -> usize
-    requires { ⌜ (64 ≤ length (now points)) × (64 ≤ length (now blockers)) × (4096 ≤ length (now pairs)) ⌝ }
-    ensures { λ r. ⌜ ((M : model.Map) → HoldsSome map (λ t. (t .points ≡ now (points .entry)) × (t .blockers ≡ now (blockers .entry)) × (t .pairs ≡ now (pairs .entry))) M → refuseMap false map false false ≡ 0 → r ≡ length (openPairs M)) ⌝ }
+    requires { ⌜ (maxPoints ≤ length (now points)) × (maxPoints ≤ length (now blockers)) × (pairPlaces ≤ length (now pairs)) ⌝ }
+    ensures { λ r. ⌜ Tells map (λ t. (t .points ≡ now (points .entry)) × (t .blockers ≡ now (blockers .entry)) × (t .pairs ≡ now (pairs .entry)))
+        (λ M. length (openPairs M)) r ⌝ }
 {
-    let mut lesser = [0u64; 2016];
-    let mut greater = [0u64; 2016];
+    let mut lesser = [0u64; LISTED];
+    let mut greater = [0u64; LISTED];
     let found = open_pairs(
         map,
         points,
@@ -51,9 +53,11 @@ pub(crate) fn count_all(
     pairs: &[u64],
     edges: usize,
 ) -> Counts
-    requires { ⌜ (map .cells ≤ 1024) × (1024 ≤ length (now cells)) × (64 ≤ length (now points)) × (64 ≤ length (now blockers)) × (4096 ≤ length (now pairs)) ⌝ }
-    ensures { λ r. ⌜ ((M : model.Map) → HoldsSome map (λ t. (t .cells ≡ now (cells .entry)) × (t .points ≡ now (points .entry)) × (t .blockers ≡ now (blockers .entry)) × (t .pairs ≡ now (pairs .entry))) M → refuseMap false map false false ≡ 0
-        → r ≡ record { cells = length (M .cells); corners = length (corners M); points = map .points; edges = edges; «open» = length (openPairs M); blocks = blockCount (M .cells) }) ⌝ }
+    requires { ⌜ (map .cells ≤ maxCells) × (maxCells ≤ length (now cells)) × (maxPoints ≤ length (now points)) × (maxPoints ≤ length (now blockers))
+        × (pairPlaces ≤ length (now pairs)) ⌝ }
+    ensures { λ r. ⌜ Tells map
+        (λ t. (t .cells ≡ now (cells .entry)) × (t .points ≡ now (points .entry)) × (t .blockers ≡ now (blockers .entry)) × (t .pairs ≡ now (pairs .entry)))
+        (countsOf (map .points) edges) r ⌝ }
 {
     let n = map.cells;
     let corners = count_corners(map, cells);

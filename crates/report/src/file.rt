@@ -7,11 +7,15 @@ use mapfile::field::one_field;
 use mapfile::state::Reading;
 use mapfile::state::begin;
 use print::refusal::put_refusal;
+use sizes::CELLS;
+use sizes::LISTING;
+use sizes::PAIRS;
+use sizes::POINTS;
 ghost use mathlib.Core.Path.{_≡_};
 ghost use mathlib.Core.Bool.{false};
 ghost use Rattle.model.specs.MapFile.{readFile};
 ghost use Rattle.model.specs.Refusal.{short};
-ghost use Rattle.held.specs.Holds.{needs};
+ghost use Rattle.held.specs.Holds.{needs, tablesOf};
 ghost use Rattle.report.specs.Filed.{EndedAs, Listed};
 
 // 0 and the map; or the refusal's number and the field's.
@@ -30,8 +34,9 @@ fn read_file(
     blockers: &mut [u64],
     pairs: &mut [u64],
 ) -> Ended
-    requires { ⌜ short (needs (record { cells = now cells; points = now points; statuses = now statuses; blockers = now blockers; pairs = now pairs })) ≡ false ⌝ }
-    ensures { λ r. ⌜ EndedAs (r .refusal) r (record { cells = now (cells .exit); points = now (points .exit); statuses = now (statuses .exit); blockers = now (blockers .exit); pairs = now (pairs .exit) }) (readFile (now (bytes .entry))) ⌝ }
+    requires { ⌜ short (needs (tablesOf (now cells) (now points) (now statuses) (now blockers) (now pairs))) ≡ false ⌝ }
+    ensures { λ r. ⌜ EndedAs (r .refusal) r (tablesOf (now (cells .exit)) (now (points .exit)) (now (statuses .exit)) (now (blockers .exit)) (now (pairs .exit)))
+        (readFile (now (bytes .entry))) ⌝ }
 {
     let mut reader = begin();
     let mut at = 0;
@@ -73,14 +78,14 @@ fn read_file(
 pub fn list_file(bytes: &[u8], out: &mut [u8]) -> Count
     ensures { λ r. ⌜ Listed (now (bytes .entry)) (now (out .entry)) (now (out .exit)) r ⌝ }
 {
-    if out.len() < 166656 {
+    if out.len() < LISTING {
         return refused(9);
     }
-    let mut cells = [0u64; 1024];
-    let mut points = [0u64; 64];
-    let mut statuses = [0u8; 64];
-    let mut blockers = [0u64; 64];
-    let mut pairs = [0u64; 4096];
+    let mut cells = [0u64; CELLS];
+    let mut points = [0u64; POINTS];
+    let mut statuses = [0u8; POINTS];
+    let mut blockers = [0u64; POINTS];
+    let mut pairs = [0u64; PAIRS];
     let end = read_file(
         bytes,
         &mut cells[..],

@@ -2,6 +2,7 @@
 use crate::counts::count_all;
 use answers::judge::Count;
 use answers::judge::lacks;
+use answers::judge::lacks_tables;
 use answers::judge::refuse;
 use answers::judge::refused;
 use answers::pairs::all_pairs;
@@ -9,17 +10,9 @@ use held::map::Map;
 use print::counts::put_counts;
 use print::pairs::put_pairs;
 use print::points::put_points;
-ghost use mathlib.Core.Path.{_≡_};
-ghost use mathlib.Core.Bool.{false};
-ghost use mathlib.Core.List.{[], _∷_};
-ghost use lib.ListN.{length};
-ghost use Rattle.answers.specs.Asking.{HoldsSome, Listing, refuseMap};
-ghost use Rattle.model.specs.Limits.{maxCells, maxPoints};
-ghost use Rattle.model.specs.Listing.{listed};
-ghost use Rattle.model.specs.MapFile.{done};
-ghost use Rattle.model.specs.Refusal.{short};
-ghost use Rattle.held.specs.Pairs.{pairPlaces};
-ghost use Rattle.report.specs.Reported.{needListing};
+use sizes::LISTED;
+use sizes::LISTING;
+ghost use Rattle.report.specs.Reported.{MapListed};
 
 // Writes the listing of a map: its counts, its points, its pairs. The count that is returned is that of its bytes.
 pub fn list_map(
@@ -31,28 +24,24 @@ pub fn list_map(
     pairs: &[u64],
     out: &mut [u8],
 ) -> Count
-    ensures { λ r. ⌜ Listing
-        (refuseMap (short ((length (now (cells .entry)), maxCells) ∷ (length (now (points .entry)), maxPoints) ∷ (length (now (statuses .entry)), maxPoints) ∷ (length (now (blockers .entry)), maxPoints) ∷ (length (now (pairs .entry)), pairPlaces) ∷ (length (now (out .entry)), needListing) ∷ [])) map false false)
-        (HoldsSome map (λ t. (t .cells ≡ now (cells .entry)) × (t .points ≡ now (points .entry)) × (t .statuses ≡ now (statuses .entry)) × (t .blockers ≡ now (blockers .entry)) × (t .pairs ≡ now (pairs .entry))))
-        (record { was = now (out .entry); is = now (out .exit); wanted = λ M. listed (done M) } ∷ []) r ⌝ }
+    ensures { λ r. ⌜ MapListed map (now (cells .entry)) (now (points .entry)) (now (statuses .entry)) (now (blockers .entry)) (now (pairs .entry))
+        (now (out .entry)) (now (out .exit)) r ⌝ }
 {
-    let layer = lacks(
+    let short = lacks_tables(
+        cells.len(),
+        points.len(),
         statuses.len(),
-        64,
-        lacks(
-            blockers.len(),
-            64,
-            lacks(pairs.len(), 4096, lacks(out.len(), 166656, false)),
-        ),
+        blockers.len(),
+        pairs.len(),
+        lacks(out.len(), LISTING, false),
     );
-    let short = lacks(cells.len(), 1024, lacks(points.len(), 64, layer));
     let number = refuse(short, map, false, false);
     if number != 0 {
         return refused(number);
     }
-    let mut lesser = [0u64; 2016];
-    let mut greater = [0u64; 2016];
-    let mut blocks = [0u64; 2016];
+    let mut lesser = [0u64; LISTED];
+    let mut greater = [0u64; LISTED];
+    let mut blocks = [0u64; LISTED];
     let found = all_pairs(
         map,
         points,
@@ -62,8 +51,8 @@ pub fn list_map(
         &mut blocks[..],
     );
     let mut edges = found.count;
-    if 2016 < edges {
-        edges = 2016;
+    if LISTED < edges {
+        edges = LISTED;
     }
     let counts = count_all(map, cells, points, blockers, pairs, edges);
     let n = map.points;

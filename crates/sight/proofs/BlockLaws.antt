@@ -10,24 +10,19 @@ use lib.ListN.{length, drop, getD, set, length-set}
 use lib.Ieee.{Float}
 use Rattle.table.proofs.ListedLaws.{keys-at}
 use Rattle.batches.proofs.WriteLaws.{listed-lengths}
-use Rattle.limits.specs.Batches.{flags}
 use Rattle.table.proofs.Front.{mix, mix-done, mix-more}
 use Rattle.marks.specs.Standing.{Small, Standing, mood, word}
 use Rattle.marks.specs.declared.mood.Mood.{Mood}
 use Rattle.model.specs.Batch.{Batch}
-use Rattle.model.specs.Cell.{reach}
+use Rattle.model.specs.Cell as cell
 use Rattle.model.specs.ClosedForm.{pointRun}
 use Rattle.model.specs.Corner.{zero4}
-use Rattle.model.specs.Good.{Inside}
 use Rattle.model.specs.Layer.{Tests}
-use Rattle.model.specs.Limits.{maxCoordinate, maxPoints}
+use Rattle.model.specs.Limits.{maxPoints}
 use Rattle.model.specs.Map.{shiftOf, tests}
-use Rattle.model.specs.Maps.{AscL, keys}
-use Rattle.table.specs.Listed.{values}
-use Rattle.table.specs.Tables.{All}
 use Rattle.table.proofs.ListedLaws.{keys-length}
-use Rattle.held.specs.Codes.{AllNamed, Named, blockCode, codes}
-use Rattle.sight.specs.Blocked.{Fitting, Seeing, Stood, pointBlocks, pointStart, wordsOf}
+use Rattle.held.specs.Codes.{AllNamed, blockCode, codes}
+use Rattle.sight.specs.Blocked.{Fitting, PointRuns, PointStarts, Seeing, Stood, pointBlocks, pointStart, wordsOf}
 use Rattle.looks.proofs.NamedLaws.{square-named}
 use Rattle.sight.proofs.PointLaws.{codes-at, start-named}
 use Rattle.held.proofs.LayerLaws.{codes-length}
@@ -51,22 +46,22 @@ fitting-at (e ∷ S) zero z f h = (f .0, f .1)
 fitting-at (e ∷ S) (suc i) z f h = fitting-at S i z (f .2) (le-of-suc-le-suc h)
 
 -- what is lent of the points has one length
-pub record Fits (turned full points moods : List ℕ) (n : ℕ) : Type 0 where
-  pub changes : length turned ≡ length full
+pub record Fits (confirmed full points moods : List ℕ) (n : ℕ) : Type 0 where
+  pub changes : length confirmed ≡ length full
   pub count : length points ≡ n
   pub words : length moods ≡ n
 
-pub seeing-fits : {C : List ℕ} {ch : Batch} {S : Stood} {turned full points moods : List ℕ} → Seeing C ch S turned full points moods → Fits turned full points moods (length S)
-seeing-fits {C} {ch} {S} {turned} {full} {points} {moods} s =
+pub seeing-fits : {C : List ℕ} {ch : Batch} {S : Stood} {confirmed full points moods : List ℕ} → Seeing C ch S confirmed full points moods → Fits confirmed full points moods (length S)
+seeing-fits {C} {ch} {S} {confirmed} {full} {points} {moods} s =
     record {
-      changes = listed-lengths turned full ch (s .turnedAre) (s .fullAre);
+      changes = listed-lengths confirmed full ch (s .confirmedAre) (s .fullAre);
       count = ap length (s .pointsAre) ∙ keys-length S;
       words = ap length (s .moodsAre) ∙ words-length S;
     }
 
 -- no list is short
-pub never-short : {C : List ℕ} {ch : Batch} {S : Stood} {turned full points moods : List ℕ} (n : ℕ) → Seeing C ch S turned full points moods → length S ≤ n
-    → (length full < length turned) ⊎ ((length moods < length points) ⊎ (n < length points)) → ⊥
+pub never-short : {C : List ℕ} {ch : Batch} {S : Stood} {confirmed full points moods : List ℕ} (n : ℕ) → Seeing C ch S confirmed full points moods → length S ≤ n
+    → (length full < length confirmed) ⊎ ((length moods < length points) ⊎ (n < length points)) → ⊥
 never-short n s h (inl l) = let f = seeing-fits s in omega arith
 never-short n s h (inr (inl l)) = let f = seeing-fits s in omega arith
 never-short n s h (inr (inr l)) = let f = seeing-fits s in omega arith
@@ -85,23 +80,21 @@ blocks-at t C ch B (e ∷ S) zero z h = refl
 blocks-at t C ch B (e ∷ S) (suc i) z h = blocks-at t C ch B S i z (le-of-suc-le-suc h)
 
 -- ---- the loop: the first i are written
-pub record Blocking (size radius : Float) (near : ℕ) (C turned full points moods old out₀ : List ℕ) (i : ℕ) (out : List ℕ) : Type 0 where
+pub record Blocking (size radius : Float) (reach : ℕ) (C confirmed full points moods old out₀ : List ℕ) (i : ℕ) (out : List ℕ) : Type 0 where
   pub inside : i ≤ length points
   pub same : length out ≡ length out₀
-  pub front : (ch : Batch) (S : Stood) (B : List (Option ℕ)) → Seeing C ch S turned full points moods → near ≡ reach (shiftOf size radius) → old ≡ codes B → AllNamed B
+  pub front : (ch : Batch) (S : Stood) (B : List (Option ℕ)) → Seeing C ch S confirmed full points moods → reach ≡ cell.reach (shiftOf size radius) → old ≡ codes B → AllNamed B
       → out ≡ mix (codes (pointBlocks (tests size radius) C ch B S)) out₀ i
 
-pub blocking-start : (size radius : Float) (near : ℕ) (C turned full points moods old out₀ : List ℕ) → Blocking size radius near C turned full points moods old out₀ 0 out₀
-blocking-start size radius near C turned full points moods old out₀ =
+pub blocking-start : (size radius : Float) (reach : ℕ) (C confirmed full points moods old out₀ : List ℕ) → Blocking size radius reach C confirmed full points moods old out₀ 0 out₀
+blocking-start size radius reach C confirmed full points moods old out₀ =
     record { inside = zero-le; same = refl; front = λ ch S B s n b a. refl }
 
-module _ {size radius : Float} {near : ℕ} {C turned full points moods old out₀ : List ℕ} {i : ℕ} {out : List ℕ} (w : Blocking size radius near C turned full points moods old out₀ i out) where
+module _ {size radius : Float} {reach : ℕ} {C confirmed full points moods old out₀ : List ℕ} {i : ℕ} {out : List ℕ} (w : Blocking size radius reach C confirmed full points moods old out₀ i out) where
   -- the point at i, of this mood, begins with `start` and ends with r
   pub blocking-next : (m : Mood) (start r : ℕ) → i < length points → length points ≤ length out₀ → ((s : Standing) → Small s → getD moods i 0 ≡ word s → m ≡ mood s)
-      → ((B : List (Option ℕ)) (s : Standing) → AscL 0 C → All (Inside maxCoordinate) C → old ≡ codes B → m ≡ mood s → start ≡ blockCode (pointStart (tests size radius) C B (getD points i 0) s))
-      → ((ch : Batch) (o : Option ℕ) → AscL 0 C → All (Inside maxCoordinate) C → All (Inside maxCoordinate) (keys ch) → turned ≡ keys ch → full ≡ values (flags ch)
-      → near ≡ reach (shiftOf size radius) → start ≡ blockCode o → Named o → r ≡ blockCode (pointRun (tests size radius) C (getD points i 0) ch o))
-      → Blocking size radius near C turned full points moods old out₀ (i + 1) (set out i r)
+      → PointStarts size radius C old (getD points i 0) m start → PointRuns size radius reach C confirmed full (getD points i 0) start r
+      → Blocking size radius reach C confirmed full points moods old out₀ (i + 1) (set out i r)
   blocking-next m start r h room isMood isStart isEnd = record {
     inside = omega arith;
     same = length-set out i r ∙ w .same;
@@ -116,7 +109,7 @@ module _ {size radius : Float} {near : ℕ} {C turned full points moods old out�
         let e : m ≡ mood (x .1) = isMood (x .1) (fitting-at S i nobody (s .fitting) l .0) v in
         let o : Option ℕ = pointStart t C B j (x .1) in
         let z : r ≡ blockCode (pointRun t C j ch o) =
-        isEnd ch o (s .order) (s .inside) (s .changes) (s .turnedAre) (s .fullAre) n (isStart B (x .1) (s .order) (s .inside) b e) (start-named t C B j (x .1) (square-named size radius C j (s .inside)) a) in
+        isEnd ch o (s .order) (s .inside) (s .changes) (s .confirmedAre) (s .fullAre) n (isStart B (x .1) (s .order) (s .inside) b e) (start-named t C B j (x .1) (square-named size radius C j (s .inside)) a) in
         let want : List ℕ = codes (pointBlocks t C ch B S) in
         let is : r ≡ getD want i 0 =
         z
@@ -127,7 +120,7 @@ module _ {size radius : Float} {near : ℕ} {C turned full points moods old out�
         ap (λ (y : List ℕ). set y i r) (w .front ch S B s n b a) ∙ ap (set (mix want out₀ i) i) is ∙ mix-more want out₀ i 0 lw lo;
   }
 
-  pub blocking-end : length points ≤ i → (ch : Batch) (S : Stood) (B : List (Option ℕ)) → Seeing C ch S turned full points moods → near ≡ reach (shiftOf size radius) → old ≡ codes B → AllNamed B
+  pub blocking-end : length points ≤ i → (ch : Batch) (S : Stood) (B : List (Option ℕ)) → Seeing C ch S confirmed full points moods → reach ≡ cell.reach (shiftOf size radius) → old ≡ codes B → AllNamed B
       → out ≡ codes (pointBlocks (tests size radius) C ch B S) ++ drop (length S) out₀
   blocking-end h ch S B s n b a =
       let f = seeing-fits s in

@@ -4,30 +4,24 @@ use native.Mathlib.Omega.{arith}
 use mathlib.Core.Path.{_≡_, refl, sym, ap, _∙_}
 use mathlib.Core.Bool.{Bool, true, false, _&&_}
 use mathlib.Core.List.{List}
-use mathlib.Core.Option.{Option, none}
+use mathlib.Core.Option.{none}
 use borrow.Author.Tests.{lt-ltb, le-ltb, ltb-true}
 use lib.Dec.{ltb}
 use lib.Ieee.{Float}
 use lib.ListN.{length, getD, set, length-set}
 use Rattle.table.proofs.ListedLaws.{keys-at}
-use Rattle.limits.specs.Batches.{flags}
 use Rattle.marks.specs.Standing.{Small, Standing, mood, word}
 use Rattle.marks.specs.declared.mood.Mood.{Mood}
 use Rattle.model.specs.Batch.{Batch}
-use Rattle.model.specs.Good.{Inside}
 use Rattle.model.specs.Layer.{Tests}
-use Rattle.model.specs.Limits.{maxCoordinate, maxPoints}
 use Rattle.model.specs.Map.{tests}
-use Rattle.model.specs.Maps.{AscL, keys}
 use Rattle.segment.specs.Near.{IsProximity}
 use Rattle.segment.specs.declared.near.Proximity.{Proximity}
-use Rattle.table.specs.Listed.{values}
-use Rattle.table.specs.Tables.{All}
 use Rattle.table.proofs.ListedLaws.{keys-length}
 use Rattle.sight.specs.Blocked.{Seeing, Stood}
 use Rattle.held.specs.Codes.{pairCode}
-use Rattle.sight.specs.Paired.{Filled, pairAt, pairBetween, pointAt}
-use Rattle.held.specs.Pairs.{Pairs, PairsNamed}
+use Rattle.sight.specs.Paired.{Filled, PairIs, pairAt, pairBetween, pointAt}
+use Rattle.held.specs.Pairs.{Pairs, PairsBy, PairsNamed}
 use Rattle.sight.specs.Rows.{forePlace, upTo}
 use Rattle.sight.proofs.BlockLaws.{fitting-at, nobody, seeing-fits, words-at}
 use Rattle.sight.proofs.TableLaws.{filled-both, filled-end, filled-on, filled-over, filled-start}
@@ -40,7 +34,7 @@ within i j n f = go (ltb i j) refl
     go true e = le-ltb j n (f (ltb-true i j e))
     go false e = refl
 
-module _ (t : Tests) (C : List ℕ) (ch : Batch) (P : ℕ → ℕ → Option (Option ℕ)) (S : Stood) (i j : ℕ) where
+module _ (t : Tests) (C : List ℕ) (ch : Batch) (P : PairsBy) (S : Stood) (i j : ℕ) where
   pub at-none : (i < j → length S ≤ j) → (j < i → length S ≤ i) → pairAt t C ch P S i j ≡ none
   unfolding pairAt
   at-none f g = rw (within i j (length S) f, within j i (length S) g) refl
@@ -53,7 +47,7 @@ module _ (t : Tests) (C : List ℕ) (ch : Batch) (P : ℕ → ℕ → Option (Op
   unfolding pairAt
   at-back h l = let g : i ≤ j = omega arith in rw (le-ltb j i g, lt-ltb i j h, lt-ltb j (length S) l) refl
 
--- behind the j-th place of the i-th row there is no further point
+-- past the j-th place of the i-th row there is no further point
 last : (i j a b n : ℕ) → n ≤ j → a < 64 → b < 64 → 64 * i + j ≤ forePlace a b → forePlace a b < 64 * (i + 1) → a < b → n ≤ b
 last i j a b n k x y u v h = let e : forePlace a b ≡ 64 * a + b = omega arith in let f : a ≡ i = omega arith in omega arith
 
@@ -62,9 +56,9 @@ last′ i j a b n k x y u v h = let e : forePlace a b ≡ 64 * b + a = omega ari
 
 -- ---- one pair
 -- what is lent: the points S with the old pairs P
-pub record Joining (size radius : Float) (reach : Proximity) (C : List ℕ) (ch : Batch) (S : Stood) (P : ℕ → ℕ → Option (Option ℕ)) (turned full points moods old : List ℕ) : Type 0 where
-  pub seeing : Seeing C ch S turned full points moods
-  pub near : IsProximity size radius reach
+pub record Joining (size radius : Float) (proximity : Proximity) (C : List ℕ) (ch : Batch) (S : Stood) (P : PairsBy) (confirmed full points moods old : List ℕ) : Type 0 where
+  pub seeing : Seeing C ch S confirmed full points moods
+  pub isProximity : IsProximity size radius proximity
   pub pairs : Pairs P old
   pub named : PairsNamed P
 
@@ -72,17 +66,10 @@ pub record Joining (size radius : Float) (reach : Proximity) (C : List ℕ) (ch 
 abbrev pub Reads : ℕ → Mood → Type 0
 Reads n m = (s : Standing) → Small s → n ≡ word s → m ≡ mood s
 
--- what `pair_between` tells of two points
-abbrev pub Told : Float → Float → Proximity → List ℕ → List ℕ → List ℕ → List ℕ → ℕ → Mood → ℕ → Mood → ℕ → Type 0
-Told size radius reach C turned full old p was q other r =
-    (ch : Batch) (P : ℕ → ℕ → Option (Option ℕ)) (w v : Standing) → AscL 0 C → All (Inside maxCoordinate) C → All (Inside maxCoordinate) (keys ch) → turned ≡ keys ch → full ≡ values (flags ch)
-    → IsProximity size radius reach → Pairs P old → PairsNamed P → was ≡ mood w → other ≡ mood v → w .old ≤ maxPoints → v .old ≤ maxPoints
-    → r ≡ pairCode (pairBetween (tests size radius) C ch P p w q v)
-
-module _ (size radius : Float) (reach : Proximity) (C turned full points moods old : List ℕ) where
+module _ (size radius : Float) (proximity : Proximity) (C confirmed full points moods old : List ℕ) where
   pub told-at : (i j : ℕ) (was other : Mood) (r : ℕ) → i < j → j < length points → Reads (getD moods i 0) was → Reads (getD moods j 0) other
-      → Told size radius reach C turned full old (getD points i 0) was (getD points j 0) other r
-      → (ch : Batch) (S : Stood) (P : ℕ → ℕ → Option (Option ℕ)) → Joining size radius reach C ch S P turned full points moods old → r ≡ pairCode (pairAt (tests size radius) C ch P S i j)
+      → PairIs size radius proximity C confirmed full old (getD points i 0) was (getD points j 0) other r
+      → (ch : Batch) (S : Stood) (P : PairsBy) → Joining size radius proximity C ch S P confirmed full points moods old → r ≡ pairCode (pairAt (tests size radius) C ch P S i j)
   told-at i j was other r h l f g t ch S P w =
       let s = w .seeing in
       let n : length points ≡ length S = ap length (s .pointsAre) ∙ keys-length S in
@@ -96,7 +83,7 @@ module _ (size radius : Float) (reach : Proximity) (C turned full points moods o
       let b : other ≡ mood (y .1) = g (y .1) (fy .0) (ap (λ (m : List ℕ). getD m j 0) (s .moodsAre) ∙ words-at S j nobody hj) in
       let p : getD points i 0 ≡ x .0 = ap (λ (m : List ℕ). getD m i 0) (s .pointsAre) ∙ keys-at S i (nobody .1) in
       let q : getD points j 0 ≡ y .0 = ap (λ (m : List ℕ). getD m j 0) (s .pointsAre) ∙ keys-at S j (nobody .1) in
-      t ch P (x .1) (y .1) (s .order) (s .inside) (s .changes) (s .turnedAre) (s .fullAre) (w .near) (w .pairs) (w .named) a b (fx .1) (fy .1)
+      t ch P (x .1) (y .1) (s .order) (s .inside) (s .changes) (s .confirmedAre) (s .fullAre) (w .isProximity) (w .pairs) (w .named) a b (fx .1) (fy .1)
       ∙ ap (λ (k : ℕ). pairCode (pairBetween (tests size radius) C ch P k (x .1) (getD points j 0) (y .1))) p
       ∙ ap (λ (k : ℕ). pairCode (pairBetween (tests size radius) C ch P (x .0) (x .1) k (y .1))) q
       ∙ ap pairCode (sym (at-fore (tests size radius) C ch P S i j h hj))
@@ -106,7 +93,7 @@ module _ (size radius : Float) (reach : Proximity) (C turned full points moods o
     pub above : i < j
     pub below : j ≤ length points
     pub same : length t′ ≡ length t
-    pub done : (ch : Batch) (S : Stood) (P : ℕ → ℕ → Option (Option ℕ)) → Joining size radius reach C ch S P turned full points moods old
+    pub done : (ch : Batch) (S : Stood) (P : PairsBy) → Joining size radius proximity C ch S P confirmed full points moods old
         → Pairs (upTo (64 * i) (pairAt (tests size radius) C ch P S)) t → Filled (upTo (64 * i + j) (pairAt (tests size radius) C ch P S)) t t′
 
   pub row-start : (i : ℕ) (t : List ℕ) → i < length points → length points ≤ 64 → Row i (i + 1) t t
@@ -121,7 +108,7 @@ module _ (size radius : Float) (reach : Proximity) (C turned full points moods o
   }
 
   pub row-more : (i j : ℕ) (t t′ : List ℕ) (v : ℕ) → Row i j t t′ → j < length points → length points ≤ 64 → 64 * length points ≤ length t
-      → ((ch : Batch) (S : Stood) (P : ℕ → ℕ → Option (Option ℕ)) → Joining size radius reach C ch S P turned full points moods old → v ≡ pairCode (pairAt (tests size radius) C ch P S i j))
+      → ((ch : Batch) (S : Stood) (P : PairsBy) → Joining size radius proximity C ch S P confirmed full points moods old → v ≡ pairCode (pairAt (tests size radius) C ch P S i j))
       → Row i (j + 1) t (set (set t′ (64 * i + j) v) (64 * j + i) v)
   row-more i j t t′ v w h l r f = record {
     above = omega (arith, w .above);
@@ -136,7 +123,7 @@ module _ (size radius : Float) (reach : Proximity) (C turned full points moods o
         (w .done ch S P g s);
   }
 
-  pub row-end : (i j : ℕ) (t t′ : List ℕ) → Row i j t t′ → length points ≤ j → length points ≤ 64 → (ch : Batch) (S : Stood) (P : ℕ → ℕ → Option (Option ℕ)) → Joining size radius reach C ch S P turned full points moods old
+  pub row-end : (i j : ℕ) (t t′ : List ℕ) → Row i j t t′ → length points ≤ j → length points ≤ 64 → (ch : Batch) (S : Stood) (P : PairsBy) → Joining size radius proximity C ch S P confirmed full points moods old
       → Pairs (upTo (64 * i) (pairAt (tests size radius) C ch P S)) t → Filled (upTo (64 * (i + 1)) (pairAt (tests size radius) C ch P S)) t t′
   row-end i j t t′ w h l ch S P g s =
       let n : length points ≡ length S = ap length (g .seeing .pointsAre) ∙ keys-length S in
@@ -145,19 +132,19 @@ module _ (size radius : Float) (reach : Proximity) (C turned full points moods o
       filled-over (pairAt (tests size radius) C ch P S) t t′ (64 * i + j) (64 * (i + 1)) b (λ a b x y u v. at-none (tests size radius) C ch P S a b (last i j a b (length S) k x y u v) (last′ i j a b (length S) k x y u v)) (w .done ch S P g s)
 
 -- ---- all rows
-module _ (size radius : Float) (reach : Proximity) (C turned full points moods old : List ℕ) where
+module _ (size radius : Float) (proximity : Proximity) (C confirmed full points moods old : List ℕ) where
   -- the rows before the i-th
   pub record Rows (i : ℕ) (t t′ : List ℕ) : Type 0 where
     pub below : i ≤ length points
     pub same : length t′ ≡ length t
-    pub done : (ch : Batch) (S : Stood) (P : ℕ → ℕ → Option (Option ℕ)) → Joining size radius reach C ch S P turned full points moods old
+    pub done : (ch : Batch) (S : Stood) (P : PairsBy) → Joining size radius proximity C ch S P confirmed full points moods old
         → Pairs (λ a b. none) t → Filled (upTo (64 * i) (pairAt (tests size radius) C ch P S)) t t′
 
   pub rows-start : (t : List ℕ) → Rows 0 t t
   rows-start t = record { below = zero-le; same = refl; done = λ ch S P g s. filled-start (pairAt (tests size radius) C ch P S) t s }
 
   pub rows-more : (i : ℕ) (t t′ t″ : List ℕ) → Rows i t t′ → i < length points → length t″ ≡ length t′
-      → ((ch : Batch) (S : Stood) (P : ℕ → ℕ → Option (Option ℕ)) → Joining size radius reach C ch S P turned full points moods old → Pairs (upTo (64 * i) (pairAt (tests size radius) C ch P S)) t′
+      → ((ch : Batch) (S : Stood) (P : PairsBy) → Joining size radius proximity C ch S P confirmed full points moods old → Pairs (upTo (64 * i) (pairAt (tests size radius) C ch P S)) t′
       → Filled (upTo (64 * (i + 1)) (pairAt (tests size radius) C ch P S)) t′ t″)
       → Rows (i + 1) t t″
   rows-more i t t′ t″ w h m f = record {
@@ -166,7 +153,7 @@ module _ (size radius : Float) (reach : Proximity) (C turned full points moods o
     done = λ ch S P g s. let d = w .done ch S P g s in filled-on t t′ t″ d (f ch S P g (d .pairs));
   }
 
-  pub rows-end : (i : ℕ) (t t′ : List ℕ) → Rows i t t′ → length points ≤ i → (ch : Batch) (S : Stood) (P : ℕ → ℕ → Option (Option ℕ)) → Joining size radius reach C ch S P turned full points moods old
+  pub rows-end : (i : ℕ) (t t′ : List ℕ) → Rows i t t′ → length points ≤ i → (ch : Batch) (S : Stood) (P : PairsBy) → Joining size radius proximity C ch S P confirmed full points moods old
       → Pairs (λ a b. none) t → Filled (pairAt (tests size radius) C ch P S) t t′
   rows-end i t t′ w h ch S P g s =
       let n : length points ≡ length S = ap length (g .seeing .pointsAre) ∙ keys-length S in
@@ -174,5 +161,5 @@ module _ (size radius : Float) (reach : Proximity) (C turned full points moods o
       filled-end (pairAt (tests size radius) C ch P S) t t′ (64 * i) (λ a b x y u. at-none (tests size radius) C ch P S a b (λ z. omega arith) (λ z. omega arith)) (w .done ch S P g s)
 
 -- what is lent fits together
-pub seeing-lengths : (C : List ℕ) (ch : Batch) (S : Stood) (turned full points moods : List ℕ) → Seeing C ch S turned full points moods → (length turned ≡ length full) × (length points ≡ length moods) × (length points ≡ length S)
-seeing-lengths C ch S turned full points moods s = let f = seeing-fits s in (f .changes, f .count ∙ sym (f .words), f .count)
+pub seeing-lengths : (C : List ℕ) (ch : Batch) (S : Stood) (confirmed full points moods : List ℕ) → Seeing C ch S confirmed full points moods → (length confirmed ≡ length full) × (length points ≡ length moods) × (length points ≡ length S)
+seeing-lengths C ch S confirmed full points moods s = let f = seeing-fits s in (f .changes, f .count ∙ sym (f .words), f .count)

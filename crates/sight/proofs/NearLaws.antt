@@ -1,7 +1,7 @@
--- Whether two cells are near, and what a prepared near test says of a cell. Assumes nothing.
+-- Whether two cells are within reach, and what a prepared near test says of a cell. Assumes nothing.
 use Prim.Native.Nat.{_<_, _≤_, ℕ}
 use mathlib.Core.Path.{_∙_, _≡_, ap, refl}
-use mathlib.Core.Bool.{Bool, _&&_, false}
+use mathlib.Core.Bool.{_&&_, false}
 use lib.Dec.{leb}
 use lib.Ieee.{Float}
 use borrow.Author.Tests.{le-leb, lt-leb}
@@ -10,8 +10,8 @@ use Rattle.model.specs.Plane.{Pt, centre}
 use Rattle.model.specs.Segment.{Seg, passesNear}
 use Rattle.plane.specs.Values.{pt}
 use Rattle.plane.specs.declared.point.Point.{Point}
-use Rattle.segment.specs.Many.{Ready, inSpans}
-use Rattle.segment.specs.Near.{IsProximity, nearBy}
+use Rattle.segment.specs.Many.{Ready, prepared}
+use Rattle.segment.specs.Near.{IsProximity}
 use Rattle.segment.specs.Values.{seg}
 use Rattle.segment.specs.declared.line.LineSegment.{LineSegment}
 use Rattle.segment.specs.declared.many.NearTest.{NearTest}
@@ -20,20 +20,17 @@ use Rattle.segment.proofs.SpanLaws.{prepared-near}
 use Rattle.sight.proofs.EdgeLaws.{Answers}
 
 -- ---- two distances, each tested against a bound
-pub first-near : (x y d e n : ℕ) → d ≡ x → e ≡ y → d ≤ n → leb e n ≡ (leb x n && leb y n)
-first-near x y d e n p q h = rw (q, le-leb x n (rw p at h)) refl
+pub first-within : (x y d e n : ℕ) → d ≡ x → e ≡ y → d ≤ n → leb e n ≡ (leb x n && leb y n)
+first-within x y d e n p q h = rw (q, le-leb x n (rw p at h)) refl
 
 pub first-far : (x y d n : ℕ) → d ≡ x → n < d → false ≡ (leb x n && leb y n)
 first-far x y d n p h = rw (lt-leb x n (rw p at h)) refl
 
--- what a prepared near test says of a cell
-abbrev pub says : NearTest → ℕ → Bool
-says t k = inSpans t k && nearBy (t .line) (t .proximity) k
-
-pub says-near : (size radius : Float) (p q : ℕ) (a b : Point) (s : LineSegment) (g : Proximity) (t : NearTest) → pt a ≡ centre size p → pt b ≡ centre size q → s .p0 ≡ a → s .p1 ≡ b → Ready s g t → IsProximity size radius g
-    → Answers (tests size radius) p q (says t)
+-- what a prepared near test answers is what the model's test does
+pub prepared-answers : (size radius : Float) (p q : ℕ) (a b : Point) (s : LineSegment) (g : Proximity) (t : NearTest) → pt a ≡ centre size p → pt b ≡ centre size q → s .p0 ≡ a → s .p1 ≡ b → Ready s g t → IsProximity size radius g
+    → Answers (tests size radius) p q (prepared t)
 unfolding tests
-says-near size radius p q a b s g t e f x y r i k h =
+prepared-answers size radius p q a b s g t e f x y r i k h =
     let u : pt (s .p0) ≡ centre size p = ap pt x ∙ e in
     let v : pt (s .p1) ≡ centre size q = ap pt y ∙ f in
     let z : seg s ≡ record { p0 = centre size p; p1 = centre size q } = ap (λ (m : Pt). record { p0 = m; p1 = pt (s .p1) }) u ∙ ap (λ (m : Pt). record { p0 = centre size p; p1 = m }) v in

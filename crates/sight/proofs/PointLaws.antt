@@ -12,7 +12,8 @@ use lib.Ieee.{Float}
 use borrow.Author.Tests.{eq-eqb, ne-eqb}
 use Rattle.marks.specs.Standing.{Standing, mood}
 use Rattle.marks.specs.declared.mood.Mood.{Mood}
-use Rattle.model.specs.Cell.{apart, col, reach, row, within}
+use Rattle.model.specs.Cell as cell
+use Rattle.model.specs.Cell.{apart, col, row, within}
 use Rattle.model.specs.Good.{Inside}
 use Rattle.model.specs.Layer.{Tests, pointAfter}
 use Rattle.model.specs.Limits.{maxCoordinate}
@@ -26,43 +27,43 @@ use Rattle.held.proofs.NamedLaws.{inside-named}
 use Rattle.looks.proofs.NamedLaws.{square-named}
 
 -- what is given of the cells and of the reach
-pub record Given (size radius : Float) (near : ℕ) (C : List ℕ) : Type 0 where
+pub record Given (size radius : Float) (reach : ℕ) (C : List ℕ) : Type 0 where
   pub order : AscL 0 C
   pub inside : All (Inside maxCoordinate) C
-  pub reaches : near ≡ reach (shiftOf size radius)
+  pub reaches : reach ≡ cell.reach (shiftOf size radius)
 
 -- ---- the steps
-within-is : (size radius : Float) (near c k : ℕ) (b : Bool) → near ≡ reach (shiftOf size radius) → b ≡ (leb (apart (col c) (col k)) near && leb (apart (row c) (row k)) near)
+within-is : (size radius : Float) (reach c k : ℕ) (b : Bool) → reach ≡ cell.reach (shiftOf size radius) → b ≡ (leb (apart (col c) (col k)) reach && leb (apart (row c) (row k)) reach)
     → within (tests size radius .shift) c k ≡ b
 unfolding within tests
-within-is size radius near c k b e h = rw (h, e) refl
+within-is size radius reach c k b e h = rw (h, e) refl
 
-module _ (size radius : Float) (near : ℕ) (C : List ℕ) (k c block : ℕ) where
+module _ (size radius : Float) (reach : ℕ) (C : List ℕ) (k c block : ℕ) where
   -- the blocker is freed: the square test again
   pub point-freed : (r : ℕ) → block ≡ c → (AscL 0 C → All (Inside maxCoordinate) C → r ≡ blockCode (tests size radius .square C k .cell))
-      → Given size radius near C → (o : Option ℕ) → Inside maxCoordinate c → Coded block o → Coded r (pointAfter (tests size radius) C k c false o)
+      → Given size radius reach C → (o : Option ℕ) → Inside maxCoordinate c → Coded block o → Coded r (pointAfter (tests size radius) C k c false o)
   point-freed r e f g none n w = let z : block ≡ 0 = w .code in let y = inside-named c n in absurd (omega arith)
   point-freed r e f g (some x) n w =
       rw (eq-eqb x c (sym (w .code) ∙ e)) (record { code = f (g .order) (g .inside); named = square-named size radius C k (g .inside) })
 
   -- another cell is freed
-  pub point-kept : block ≢ c → Given size radius near C → (o : Option ℕ) → Inside maxCoordinate c → Coded block o → Coded block (pointAfter (tests size radius) C k c false o)
+  pub point-kept : block ≢ c → Given size radius reach C → (o : Option ℕ) → Inside maxCoordinate c → Coded block o → Coded block (pointAfter (tests size radius) C k c false o)
   point-kept h g none n w = w
   point-kept h g (some x) n w = rw (ne-eqb x c (λ e. h (w .code ∙ e))) w
 
   -- a cell within reach blocks a free point
-  pub point-met : (b : Bool) → block ≡ 0 → b ≡ (leb (apart (col c) (col k)) near && leb (apart (row c) (row k)) near) → b ≡ true
-      → Given size radius near C → (o : Option ℕ) → Inside maxCoordinate c → Coded block o → Coded c (pointAfter (tests size radius) C k c true o)
+  pub point-met : (b : Bool) → block ≡ 0 → b ≡ (leb (apart (col c) (col k)) reach && leb (apart (row c) (row k)) reach) → b ≡ true
+      → Given size radius reach C → (o : Option ℕ) → Inside maxCoordinate c → Coded block o → Coded c (pointAfter (tests size radius) C k c true o)
   point-met b z h t g none n w =
-      rw (within-is size radius near c k b (g .reaches) h, t) (record { code = refl; named = inside-named c n })
+      rw (within-is size radius reach c k b (g .reaches) h, t) (record { code = refl; named = inside-named c n })
   point-met b z h t g (some x) n w = let y : block ≡ x = w .code in let d : 2 ≤ x = w .named in absurd (omega arith)
 
   -- any other cell that is filled
-  pub point-apart : (block ≡ 0 → (leb (apart (col c) (col k)) near && leb (apart (row c) (row k)) near) ≡ false)
-      → Given size radius near C → (o : Option ℕ) → Inside maxCoordinate c → Coded block o → Coded block (pointAfter (tests size radius) C k c true o)
+  pub point-apart : (block ≡ 0 → (leb (apart (col c) (col k)) reach && leb (apart (row c) (row k)) reach) ≡ false)
+      → Given size radius reach C → (o : Option ℕ) → Inside maxCoordinate c → Coded block o → Coded block (pointAfter (tests size radius) C k c true o)
   point-apart h g none n w =
       let y : block ≡ 0 = w .code in
-      rw (within-is size radius near c k false (g .reaches) (sym (h y))) w
+      rw (within-is size radius reach c k false (g .reaches) (sym (h y))) w
   point-apart h g (some x) n w = w
 
 -- ---- the beginning

@@ -5,14 +5,14 @@ use native.Mathlib.Omega.{arith}
 use mathlib.Core.Path.{_≡_, refl, sym, ap, _∙_, subst}
 use mathlib.Core.Logic.{_≢_, ⊎-elim}
 use mathlib.Core.List.{List}
-use mathlib.Core.Option.{Option, none}
+use mathlib.Core.Option.{none}
 use borrow.Author.Tests.{lt-ltb, le-ltb}
 use lib.ListN.{length, getD, set, length-set}
 use lib.Seq.{getD-set-same, getD-set-other, drop-set-lt}
 use Rattle.ieee.proofs.Tools.{lt-or-ge}
 use Rattle.held.specs.Codes.{pairCode}
 use Rattle.sight.specs.Paired.{Filled}
-use Rattle.held.specs.Pairs.{Pairs, pairPlaces}
+use Rattle.held.specs.Pairs.{Pairs, PairsBy, pairPlaces}
 use Rattle.sight.specs.Rows.{forePlace, upTo}
 
 apart : (i j a b : ℕ) → i < j → a < 64 → b < 64 → j < 64 → 64 * a + b ≢ 64 * j + i → 64 * a + b ≢ 64 * i + j → forePlace a b ≢ 64 * i + j
@@ -30,7 +30,7 @@ apart i j a b h x y l p o = ⊎-elim less more (lt-or-ge a b)
         let w : a ≡ j = omega arith in
         p (rw (u, w) refl)
 
-module _ (Q : ℕ → ℕ → Option (Option ℕ)) where
+module _ (Q : PairsBy) where
   up-in : (n a b : ℕ) → forePlace a b < n → upTo n Q a b ≡ Q a b
   up-in n a b h = rw (lt-ltb (forePlace a b) n h) refl
 
@@ -104,5 +104,5 @@ module _ (Q : ℕ → ℕ → Option (Option ℕ)) where
       all a b x y = ⊎-elim (λ l. up-in n a b l) (λ g. up-out n a b g ∙ sym (f a b x y g)) (lt-or-ge (forePlace a b) n)
 
 -- one after the other
-pub filled-on : {P R : ℕ → ℕ → Option (Option ℕ)} (t t′ t″ : List ℕ) → Filled P t t′ → Filled R t′ t″ → Filled R t t″
+pub filled-on : {P R : PairsBy} (t t′ t″ : List ℕ) → Filled P t t′ → Filled R t′ t″ → Filled R t t″
 filled-on t t′ t″ w x = record { same = x .same ∙ w .same; pairs = x .pairs; rest = x .rest ∙ w .rest }

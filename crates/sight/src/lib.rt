@@ -1,4 +1,4 @@
 // What blocks points and pairs after an update.
 pub mod blocker;
-mod near;
 pub mod pair;
+mod within;

@@ -6,28 +6,29 @@ use plane::cell::centre;
 use segment::line::LineSegment;
 use segment::many::NearTest;
 use segment::near::Proximity;
+use sizes::POINTS;
 ghost use mathlib.Core.Path.{_≡_};
-ghost use mathlib.Core.Option.{Option, none};
-ghost use Prim.Native.Nat.{ℕ, _+_, _*_, _<_, _≤_};
+ghost use mathlib.Core.Option.{none};
+ghost use Prim.Native.Nat.{_+_, _*_, _<_, _≤_};
 ghost use lib.ListN.{length};
-ghost use Rattle.limits.specs.Batches.{flags};
 ghost use Rattle.marks.specs.Standing.{Standing, mood, sooner};
 ghost use Rattle.model.specs.Batch.{Batch};
 ghost use Rattle.model.specs.Good.{Inside};
-ghost use Rattle.model.specs.Layer.{edgeRun};
 ghost use Rattle.model.specs.Limits.{maxCoordinate, maxPoints};
 ghost use Rattle.model.specs.Map.{tests};
-ghost use Rattle.model.specs.Maps.{AscL, keys};
+ghost use Rattle.model.specs.Maps.{AscL};
 ghost use Rattle.segment.specs.Near.{IsProximity};
-ghost use Rattle.table.specs.Listed.{values};
 ghost use Rattle.table.specs.Tables.{All};
+ghost use Rattle.held.specs.Codes.{blockCode, pairCode};
+ghost use Rattle.held.specs.Pairs.{Pairs, PairsBy, PairsNamed};
 ghost use Rattle.sight.specs.Blocked.{Seeing, Stood};
-ghost use Rattle.held.specs.Codes.{Named, blockCode, pairCode};
-ghost use Rattle.sight.specs.Paired.{Filled, oldPair, pairAt, pairBetween, pairStart};
-ghost use Rattle.held.specs.Pairs.{Pairs, PairsNamed};
+ghost use Rattle.sight.specs.Paired.{Filled, PairIs, PairRuns, oldPair, pairAt, pairStart};
 ghost use Rattle.sight.specs.Rows.{upTo};
 
-// Whether a point was queued before another, told from the first marks that queued them.
+// Places of a row of the table of pairs.
+const ROW: u64 = POINTS as u64;
+
+// Whether a point was queued before another, by the numbers of the first marks that queued them.
 fn is_sooner(a: u64, b: u64) -> bool
     ensures { λ r. ⌜ r ≡ sooner a b ⌝ }
 {
@@ -42,12 +43,13 @@ fn is_sooner(a: u64, b: u64) -> bool
 
 // The pair of two old points as the old table has it, 0 where there is none.
 fn old_pair(old: &[u64], a: u64, b: u64) -> u64
-    ensures { λ r. ⌜ ((P : ℕ → ℕ → Option (Option ℕ)) (w v : Standing) → Pairs P (now (old .entry)) → a ≡ w .old → b ≡ v .old → a ≤ maxPoints → b ≤ maxPoints → r ≡ pairCode (oldPair P w v)) ⌝ }
+    ensures { λ r. ⌜ ((P : PairsBy) (w v : Standing) → Pairs P (now (old .entry)) → a ≡ w .old → b ≡ v .old → a ≤ maxPoints → b ≤ maxPoints
+        → r ≡ pairCode (oldPair P w v)) ⌝ }
 {
-    if a == 0 || b == 0 || 64 < a || 64 < b {
+    if a == 0 || b == 0 || ROW < a || ROW < b {
         return 0;
     }
-    let at = (64 * (a - 1) + (b - 1)) as usize;
+    let at = (ROW * (a - 1) + (b - 1)) as usize;
     if at < old.len() {
         return old[at];
     }
@@ -59,19 +61,18 @@ fn old_pair(old: &[u64], a: u64, b: u64) -> u64
 fn run_pair(
     size: f64,
     radius: f64,
-    reach: Proximity,
+    proximity: Proximity,
     cells: &[u64],
-    turned: &[u64],
+    confirmed: &[u64],
     full: &[u8],
     p: u64,
     q: u64,
     start: u64,
 ) -> u64
-    requires { ⌜ length (now turned) ≤ length (now full) ⌝ }
-    ensures { λ r. ⌜ ((ch : Batch) (o : Option ℕ) → AscL 0 (now (cells .entry)) → All (Inside maxCoordinate) (now (cells .entry)) → All (Inside maxCoordinate) (keys ch) → now (turned .entry) ≡ keys ch → now (full .entry) ≡ values (flags ch)
-        → IsProximity size radius reach → start ≡ blockCode o → Named o → r ≡ blockCode (edgeRun (tests size radius) (now (cells .entry)) p q ch o)) ⌝ }
+    requires { ⌜ length (now confirmed) ≤ length (now full) ⌝ }
+    ensures { λ r. ⌜ PairRuns size radius proximity (now (cells .entry)) (now (confirmed .entry)) (now (full .entry)) p q start r ⌝ }
 {
-    if turned.len() == 0 {
+    if confirmed.len() == 0 {
         return start;
     }
     let test = NearTest::new(
@@ -79,13 +80,13 @@ fn run_pair(
             p0: centre(p, size),
             p1: centre(q, size),
         },
-        reach,
-        turned.len(),
+        proximity,
+        confirmed.len(),
     );
     let mut block = start;
     let mut i = 0;
-    while i < turned.len() {
-        let c = turned[i];
+    while i < confirmed.len() {
+        let c = confirmed[i];
         if full[i] == 0 {
             if block == c {
                 block = sweep_between(size, radius, cells, p, q);
@@ -109,8 +110,9 @@ fn start_pair(
     q: u64,
     other: Mood,
 ) -> u64
-    ensures { λ r. ⌜ ((P : ℕ → ℕ → Option (Option ℕ)) (w v : Standing) → AscL 0 (now (cells .entry)) → All (Inside maxCoordinate) (now (cells .entry)) → Pairs P (now (old .entry)) → PairsNamed P
-        → was ≡ mood w → other ≡ mood v → w .old ≤ maxPoints → v .old ≤ maxPoints → r ≡ blockCode (pairStart (tests size radius) (now (cells .entry)) P p w q v)) ⌝ }
+    ensures { λ r. ⌜ ((P : PairsBy) (w v : Standing) → AscL 0 (now (cells .entry)) → All (Inside maxCoordinate) (now (cells .entry))
+        → Pairs P (now (old .entry)) → PairsNamed P → was ≡ mood w → other ≡ mood v → w .old ≤ maxPoints → v .old ≤ maxPoints
+        → r ≡ blockCode (pairStart (tests size radius) (now (cells .entry)) P p w q v)) ⌝ }
 {
     let held = old_pair(old, was.old, other.old);
     if held == 1 {
@@ -129,9 +131,9 @@ fn start_pair(
 fn pair_between(
     size: f64,
     radius: f64,
-    reach: Proximity,
+    proximity: Proximity,
     cells: &[u64],
-    turned: &[u64],
+    confirmed: &[u64],
     full: &[u8],
     old: &[u64],
     p: u64,
@@ -139,19 +141,17 @@ fn pair_between(
     q: u64,
     other: Mood,
 ) -> u64
-    requires { ⌜ length (now turned) ≤ length (now full) ⌝ }
-    ensures { λ r. ⌜ ((ch : Batch) (P : ℕ → ℕ → Option (Option ℕ)) (w v : Standing) → AscL 0 (now (cells .entry)) → All (Inside maxCoordinate) (now (cells .entry)) → All (Inside maxCoordinate) (keys ch) → now (turned .entry) ≡ keys ch → now (full .entry) ≡ values (flags ch)
-        → IsProximity size radius reach → Pairs P (now (old .entry)) → PairsNamed P → was ≡ mood w → other ≡ mood v → w .old ≤ maxPoints → v .old ≤ maxPoints
-        → r ≡ pairCode (pairBetween (tests size radius) (now (cells .entry)) ch P p w q v)) ⌝ }
+    requires { ⌜ length (now confirmed) ≤ length (now full) ⌝ }
+    ensures { λ r. ⌜ PairIs size radius proximity (now (cells .entry)) (now (confirmed .entry)) (now (full .entry)) (now (old .entry)) p was q other r ⌝ }
 {
-    if !sees(p, q, other.bits) {
+    if !sees(p, q, other.status) {
         return 0;
     }
-    if !sees(q, p, was.bits) {
+    if !sees(q, p, was.status) {
         return 0;
     }
     let start = start_pair(size, radius, cells, old, p, was, q, other);
-    let block = run_pair(size, radius, reach, cells, turned, full, p, q, start);
+    let block = run_pair(size, radius, proximity, cells, confirmed, full, p, q, start);
     if block == 0 { 1 } else { block }
 }
 
@@ -159,9 +159,9 @@ fn pair_between(
 fn join_row(
     size: f64,
     radius: f64,
-    reach: Proximity,
+    proximity: Proximity,
     cells: &[u64],
-    turned: &[u64],
+    confirmed: &[u64],
     full: &[u8],
     points: &[u64],
     moods: &[u64],
@@ -169,10 +169,13 @@ fn join_row(
     i: usize,
     out: &mut [u64],
 )
-    requires { ⌜ (length (now turned) ≤ length (now full)) × (length (now points) ≤ length (now moods)) × (length (now points) ≤ 64) × (i < length (now points)) × (64 * length (now points) ≤ length (now out)) ⌝ }
-    ensures { λ r. ⌜ ((ch : Batch) (S : Stood) (P : ℕ → ℕ → Option (Option ℕ)) → Seeing (now (cells .entry)) ch S (now (turned .entry)) (now (full .entry)) (now (points .entry)) (now (moods .entry)) → IsProximity size radius reach
-        → Pairs P (now (old .entry)) → PairsNamed P → Pairs (upTo (64 * i) (pairAt (tests size radius) (now (cells .entry)) ch P S)) (now (out .entry))
-        → Filled (upTo (64 * (i + 1)) (pairAt (tests size radius) (now (cells .entry)) ch P S)) (now (out .entry)) (now (out .exit))) ⌝ }
+    requires { ⌜ (length (now confirmed) ≤ length (now full)) × (length (now points) ≤ length (now moods)) × (length (now points) ≤ maxPoints)
+        × (i < length (now points)) × (maxPoints * length (now points) ≤ length (now out)) ⌝ }
+    ensures { λ r. ⌜ ((ch : Batch) (S : Stood) (P : PairsBy)
+        → Seeing (now (cells .entry)) ch S (now (confirmed .entry)) (now (full .entry)) (now (points .entry)) (now (moods .entry))
+        → IsProximity size radius proximity → Pairs P (now (old .entry)) → PairsNamed P
+        → Pairs (upTo (maxPoints * i) (pairAt (tests size radius) (now (cells .entry)) ch P S)) (now (out .entry))
+        → Filled (upTo (maxPoints * (i + 1)) (pairAt (tests size radius) (now (cells .entry)) ch P S)) (now (out .entry)) (now (out .exit))) ⌝ }
 {
     let p = points[i];
     let was = Mood::of_word(moods[i]);
@@ -182,9 +185,9 @@ fn join_row(
         let pair = pair_between(
             size,
             radius,
-            reach,
+            proximity,
             cells,
-            turned,
+            confirmed,
             full,
             old,
             p,
@@ -192,8 +195,8 @@ fn join_row(
             points[j],
             other,
         );
-        out[64 * i + j] = pair;
-        out[64 * j + i] = pair;
+        out[POINTS * i + j] = pair;
+        out[POINTS * j + i] = pair;
         j += 1;
     }
 }
@@ -203,32 +206,34 @@ pub fn join_pairs(
     size: f64,
     radius: f64,
     cells: &[u64],
-    turned: &[u64],
+    confirmed: &[u64],
     full: &[u8],
     points: &[u64],
     moods: &[u64],
     old: &[u64],
     out: &mut [u64],
 )
-    ensures { λ r. ⌜ ((ch : Batch) (S : Stood) (P : ℕ → ℕ → Option (Option ℕ)) → Seeing (now (cells .entry)) ch S (now (turned .entry)) (now (full .entry)) (now (points .entry)) (now (moods .entry)) → Pairs P (now (old .entry)) → PairsNamed P
+    ensures { λ r. ⌜ ((ch : Batch) (S : Stood) (P : PairsBy)
+        → Seeing (now (cells .entry)) ch S (now (confirmed .entry)) (now (full .entry)) (now (points .entry)) (now (moods .entry))
+        → Pairs P (now (old .entry)) → PairsNamed P
         → maxPoints * length S ≤ length (now (out .entry)) → length S ≤ maxPoints → Pairs (λ i j. none) (now (out .entry))
         → Filled (pairAt (tests size radius) (now (cells .entry)) ch P S) (now (out .entry)) (now (out .exit))) ⌝ }
 {
-    if full.len() < turned.len() || moods.len() < points.len() {
+    if full.len() < confirmed.len() || moods.len() < points.len() {
         return;
     }
-    if 64 < points.len() || out.len() < 64 * points.len() {
+    if POINTS < points.len() || out.len() < POINTS * points.len() {
         return;
     }
-    let reach = Proximity::new(size, radius);
+    let proximity = Proximity::new(size, radius);
     let mut i = 0;
     while i < points.len() {
         join_row(
             size,
             radius,
-            reach,
+            proximity,
             cells,
-            turned,
+            confirmed,
             full,
             points,
             moods,

@@ -23,8 +23,8 @@ use Rattle.model.specs.Refusal.{offMap}
 use Rattle.held.specs.Codes.{blockCode}
 use Rattle.looks.proofs.NamedLaws.{sweep-named}
 use Rattle.table.specs.Tables.{All}
-use Rattle.views.specs.Kept.{steps}
-use Rattle.views.proofs.FillLaws.{Filling, filling-done, filling-none, filling-pass, filling-put}
+use Rattle.views.specs.Kept.{Surrounded, steps}
+use Rattle.answers.proofs.FillLaws.{Filling, filling-done, filling-none, filling-pass, filling-put}
 use Rattle.views.proofs.FreeLaws.{found-none, found-some}
 
 -- ---- room around a cell
@@ -32,13 +32,13 @@ asked-biased : (z : ℤ) → natAbs z ≤ Asked → (origin ≤ biased z + Asked
 asked-biased (pos n) h = (omega arith, omega arith)
 asked-biased (negsuc n) h = (omega arith, omega arith)
 
-pub key-between : (x y : ℤ) → offMap (maxCoordinate + beyond) x || offMap (maxCoordinate + beyond) y ≡ false → (4294967297 ≤ key x y) × (key x y < 18446744069414584319)
+pub key-between : (x y : ℤ) → offMap (maxCoordinate + beyond) x || offMap (maxCoordinate + beyond) y ≡ false → Surrounded (key x y)
 unfolding key
 key-between x y e =
     let p = or-parts (offMap Asked x) (offMap Asked y) e in
     go (biased x) (biased y) (asked-biased x (ltb-false Asked (natAbs x) (p .0))) (asked-biased y (ltb-false Asked (natAbs y) (p .1)))
   where
-    go : (u v : ℕ) → (origin ≤ u + Asked) × (u ≤ origin + Asked) → (origin ≤ v + Asked) × (v ≤ origin + Asked) → (4294967297 ≤ u * W + v) × (u * W + v < 18446744069414584319)
+    go : (u v : ℕ) → (origin ≤ u + Asked) × (u ≤ origin + Asked) → (origin ≤ v + Asked) × (v ≤ origin + Asked) → Surrounded (u * W + v)
     go u v a b = let a0 = a .0 in let a1 = a .1 in let b0 = b .0 in let b1 = b .1 in (omega arith, omega arith)
 
 -- ---- the loop over the eight

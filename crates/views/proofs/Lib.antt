@@ -2,7 +2,6 @@
 pub mod AroundLaws
 pub mod CallLaws
 pub mod Determinate
-pub mod FillLaws
 pub mod FreeLaws
 pub mod MarkedLaws
 pub mod NeighbourLaws

@@ -15,7 +15,7 @@ use Rattle.model.specs.Layer.{Edges, Points, edge}
 use Rattle.model.specs.Maps.{keys, sift}
 use Rattle.held.specs.Codes.{NamedPair, pairCode}
 use Rattle.views.specs.Kept.{marked}
-use Rattle.views.proofs.FillLaws.{Filling, filling-done, filling-none, filling-pass, filling-put}
+use Rattle.answers.proofs.FillLaws.{Filling, filling-done, filling-none, filling-pass, filling-put}
 use Rattle.views.proofs.FreeLaws.{pair-open}
 
 -- ---- the loop

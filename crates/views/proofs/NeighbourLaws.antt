@@ -1,5 +1,5 @@
 -- The cells beside a cell, as a call lists them. Assumes nothing.
-use Prim.Native.Nat.{ℕ, _≤_, _<_}
+use Prim.Native.Nat.{ℕ, _≤_}
 use native.Mathlib.Omega.{arith}
 use mathlib.Core.Path.{_≡_, refl, sym, ap, _∙_, subst}
 use mathlib.Core.Bool.{Bool, true, false, cond}
@@ -24,7 +24,7 @@ use Rattle.looks.proofs.NamedLaws.{square-named}
 use Rattle.table.specs.Tables.{All}
 use Rattle.held.specs.declared.map.Map.{Map}
 use Rattle.held.proofs.RoomLaws.{Enough}
-use Rattle.views.specs.Kept.{steps}
+use Rattle.views.specs.Kept.{Surrounded, steps}
 use Rattle.views.proofs.AroundLaws.{Told}
 use Rattle.views.specs.Seen.{Beside, besideLengths as lengths, refusal}
 use Rattle.views.proofs.CallLaws.{few-cells, key-inner, rooms}
@@ -76,8 +76,8 @@ module _ {m : Map} {cells out : List ℕ} {x y : ℤ} (g : Going m cells out x y
   cells-used = length-take-le (m .cells) cells (omega (arith, room .0, few-cells m (lengths cells out) x y (g .pass)))
 
   module _ (k : ℕ) (q : k ≡ key x y) where
-    pub around-fits : (4294967297 ≤ k) × (k < 18446744069414584319) × (8 ≤ length out)
-    around-fits = let b = key-inner m (lengths cells out) x y (g .pass) in (rw q (b .0), rw q (b .1), omega (arith, room .1 .0))
+    pub around-fits : Surrounded k × (8 ≤ length out)
+    around-fits = let b = key-inner m (lengths cells out) x y (g .pass) in (rw q b, omega (arith, room .1 .0))
 
     -- by what the square test found
     module _ (s : ℕ) (sq : AscL 0 used-cells → All (Inside maxCoordinate) used-cells → s ≡ blockCode (model.tests (m .size) (m .radius) .square used-cells k .cell)) where

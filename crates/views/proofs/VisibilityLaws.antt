@@ -50,7 +50,7 @@ module _ (m : Map) (t : Tables) (M : model.Map) (h : Holds m t M) (k : ℕ) wher
   order : AscL 0 own
   order = rw (layer-keys (h .layer)) (asc-keys 0 ps (h .good .pointOrder))
 
-  -- k is a point, or none, by what stands at its place
+  -- k is a point, or none, by what is at its place
   module _ (at : ℕ) (e : AscL 0 own → at ≡ rank k own) where
     point-has : has k (keys ps) ≡ stands k at own
     point-has = ap (has k) (sym (layer-keys (h .layer))) ∙ sym (stands-has k at own order (e order))

@@ -1,15 +1,19 @@
 -- Between functions: which cells the loops of crate `views` keep: `steps` is the model's `neighbours` where the square is free, `marked` its `fromPoint` and `seen` its `fromElsewhere` (occupancy/mod.rs, `neighbors`, `calculate_visibility`). Definitions only.
-use Prim.Native.Nat.{ℕ}
+use Prim.Native.Nat.{ℕ, _+_, _*_, _≤_, _<_}
 use mathlib.Core.Bool.{cond, _&&_}
 use mathlib.Core.List.{List, [], _∷_}
 use lib.Dec.{eqb}
 use lib.Ieee.{Float}
 use Rattle.model.specs.Answers.{free}
-use Rattle.model.specs.Cell.{eight}
+use Rattle.model.specs.Cell.{W, eight}
 use Rattle.model.specs.Corner.{sees}
 use Rattle.model.specs.Layer.{Points}
 use Rattle.model.specs.Map.{tests}
 use Rattle.model.specs.Maps.{keys, sift}
+
+-- the eight cells around k have keys
+abbrev pub Surrounded : ℕ → Type 0
+Surrounded k = (W + 1 ≤ k) × (k + (W + 1) < W * W)
 
 -- the cells around k to which the sweep is free
 abbrev pub steps : Float → Float → List ℕ → ℕ → List ℕ

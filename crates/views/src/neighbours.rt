@@ -8,27 +8,27 @@ use held::map::Map;
 use limits::cell::Cell;
 use looks::tests::square_at;
 use looks::tests::sweep_between;
-ghost use mathlib.Core.Bool.{false};
-ghost use Prim.Native.Nat.{_+_, _≤_, _<_};
+use sizes::CELLS;
+use sizes::COLUMN;
+use sizes::POINTS;
+ghost use Prim.Native.Nat.{_≤_};
 ghost use lib.ListN.{length};
 ghost use Rattle.answers.specs.Asking.{Front};
-ghost use Rattle.model.specs.Answers.{neighbours};
-ghost use Rattle.model.specs.Cell.{key};
 ghost use Rattle.model.specs.Good.{Inside};
 ghost use Rattle.model.specs.Limits.{maxCoordinate};
 ghost use Rattle.model.specs.Maps.{AscL};
-ghost use Rattle.model.specs.Refusal.{short};
 ghost use Rattle.table.specs.Tables.{All};
 ghost use Rattle.views.specs.Seen.{Beside};
-ghost use Rattle.views.specs.Kept.{steps};
+ghost use Rattle.views.specs.Kept.{Surrounded, steps};
 
 // Those of the eight cells around k to whose centre the sweep is free, in the order of `secondary_cardinal_directions`.
 fn write_steps(size: f64, radius: f64, cells: &[u64], k: u64, out: &mut [u64]) -> usize
-    requires { ⌜ (4294967297 ≤ k) × (k < 18446744069414584319) × (8 ≤ length (now out)) ⌝ }
-    ensures { λ r. ⌜ (AscL 0 (now (cells .entry)) → All (Inside maxCoordinate) (now (cells .entry)) → Front (steps size radius (now (cells .entry)) k) r (now (out .entry)) (now (out .exit))) ⌝ }
+    requires { ⌜ Surrounded k × (8 ≤ length (now out)) ⌝ }
+    ensures { λ r. ⌜ (AscL 0 (now (cells .entry)) → All (Inside maxCoordinate) (now (cells .entry))
+        → Front (steps size radius (now (cells .entry)) k) r (now (out .entry)) (now (out .exit))) ⌝ }
 {
-    let west = k - 4294967296;
-    let east = k + 4294967296;
+    let west = k - COLUMN;
+    let east = k + COLUMN;
     let around = [
         west - 1,
         west,
@@ -55,7 +55,7 @@ fn write_steps(size: f64, radius: f64, cells: &[u64], k: u64, out: &mut [u64]) -
 pub fn neighbours(map: Map, cells: &[u64], cell: Cell, out: &mut [u64]) -> Count
     ensures { λ r. ⌜ Beside map (now (cells .entry)) (now (out .entry)) (cell .x) (cell .y) (now (out .exit)) r ⌝ }
 {
-    let short = lacks(cells.len(), 1024, lacks(out.len(), 64, false));
+    let short = lacks(cells.len(), CELLS, lacks(out.len(), POINTS, false));
     let number = refuse(short, map, off_edge(cell), false);
     if number != 0 {
         return refused(number);

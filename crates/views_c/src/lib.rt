@@ -4,6 +4,7 @@ use held::map::Map;
 use limits::cell::Cell;
 use views::neighbours::neighbours;
 use views::visibility_from::visibility_from;
+ghost use Rattle.held.specs.Holds.{tablesOf};
 ghost use Rattle.views.specs.Seen.{Beside, InSight};
 
 // The neighbours of a cell that can be reached.
@@ -26,7 +27,7 @@ pub extern "C" fn runcedau_visibility(
     cell: Cell,
     out: &mut [u64],
 ) -> Count
-    ensures { λ r. ⌜ InSight map (record { cells = now (cells .entry); points = now (points .entry); statuses = now (statuses .entry); blockers = now (blockers .entry); pairs = now (pairs .entry) })
+    ensures { λ r. ⌜ InSight map (tablesOf (now (cells .entry)) (now (points .entry)) (now (statuses .entry)) (now (blockers .entry)) (now (pairs .entry)))
         (now (out .entry)) (cell .x) (cell .y) (now (out .exit)) r ⌝ }
 {
     visibility_from(map, cells, points, statuses, blockers, pairs, cell, out)

@@ -39,8 +39,8 @@ module _ (M : model.Map) (l : List model.Entry) where
   abbrev pub ch : Batch
   ch = confirmed (model.toBatch l) (M .cells)
 
-  abbrev pub cs : List (ℕ × Bits)
-  cs = cornerChanges (M .cells) C′ ch
+  abbrev pub changed : List (ℕ × Bits)
+  changed = cornerChanges (M .cells) C′ ch
 
   abbrev pub ms : List Mark
   ms = marksIn (T M .shift) (M .cells) (model.toBatch l)
@@ -85,11 +85,11 @@ module _ {m : Map} {t : Tables} {M : model.Map} {l : List model.Entry} (u : Upda
       let y : length (model.toBatch l) ≡ length l = batch-length l in
       omega (arith, x, y, set .fewer, u .few)
 
-  pub few-corners : length (cs M l) ≤ needCorners
+  pub few-corners : length (changed M l) ≤ needCorners
   few-corners =
       let x : length (changesOf M l) ≡ length (ch M l) = flags-count (ch M l) in
-      let y : length (cs M l) ≤ 9 * length (ch M l) = changes-length (M .cells) (C′ M l) (ch M l) in
+      let y : length (changed M l) ≤ 9 * length (ch M l) = changes-length (M .cells) (C′ M l) (ch M l) in
       omega (arith, x, y, few-changes)
 
   pub few-altered : length (cornersOf M l) ≤ needCorners
-  few-altered = rw (numbered-count (cs M l)) few-corners
+  few-altered = rw (numbered-count (changed M l)) few-corners

@@ -24,7 +24,7 @@ use Rattle.visibility.specs.Layers.{stoodOf}
 use Rattle.held.proofs.PlaceLaws.{place-back, place-some}
 use Rattle.visibility.proofs.StoodLaws.{left, left-old, stays-has}
 
--- a key's blocker stands at the key's place
+-- a key's blocker is at the key's place
 pub blocks-at : (lo : ℕ) (ps : Points) (k : ℕ) → Asc lo ps → has k (keys ps) ≡ true → getD (blocksOf ps) (rank k (keys ps)) none ≡ blockIn ps k
 unfolding blockIn get has keys rank
 blocks-at lo [] k a h = refl

@@ -40,14 +40,14 @@ short-either k l x y s p q w = ⊎-elim (λ z. z .1 ∙ sym (known true (z .0) �
     known : (b : Bool) → y ≡ b → short k || short l ≡ short k || b
     known b z = ap (λ (a : Bool). short k || a) (sym q ∙ z)
 
--- ---- what is due
--- a refusal that is due before cells and points are counted is due whatever they come to
+-- ---- the refusals that apply
+-- a refusal that applies before cells and points are counted applies however many there are
 due-early : (s : Bool) (m : Map) (l : List ℤ) (w p : Bool) → (refuseBatch s m l false false ≡ 0 → ⊥) → refuseBatch s m l w p ≡ refuseBatch s m l false false
 due-early s m l w p h =
     let none = in-turn s m l false false in
     in-turn s m l w p ∙ sym (turn-some (ofInput s m l) (cond w 6 (cond p 7 0)) (λ z. h (none ∙ z))) ∙ sym none
 
--- what is not refused by the input alone: nothing is due but 6 and, after it, 7
+-- what is not refused by the input alone: nothing applies but 6 and, after it, 7
 pub record Passed (s : Bool) (m : Map) (l : List ℤ) : Type 0 where
   pub long : s ≡ false
   pub radius : badRadius (m .size) (m .radius) ≡ false
@@ -98,7 +98,7 @@ module _ (m : Map) (b : List ℤ) (t t′ : Lent) (r : Changed) where
   number : (n : ℕ) → r ≡ refusedWith n → r .refusal ≡ n
   number n f = ap (λ (a : Changed). a .refusal) f
 
-  -- a refusal that is due whatever the points come to, or of a map that comes with too many
+  -- a refusal that applies however many points there are, or of a map that comes with too many
   refuses : (n : ℕ) → (n ≡ 0 → ⊥) → r ≡ refusedWith n → t′ ≡ t → ((k : ℕ) → early ≡ suc k → n ≡ suc k) → (maxPoints < m .points → early ≡ 0 → (n ≡ 6) ⊎ (n ≡ 7))
       → ((C : List ℕ) → HoldsCells C → (p : Bool) → (maxPoints < m .points → p ≡ true) → n ≡ refuseBatch s m b (ltb maxCells (length (after C))) p) → Changing m b t t′ r
   refuses n some f w first over due = record {

@@ -30,7 +30,7 @@ cleared-at n t i h =
     let l : i < length z = rw (length-replicate {A = ℕ} n 0) h in
     List·getD-append z (drop n t) 0 i l ∙ getD-replicate n i 0 0 h
 
--- the places behind are as they were
+-- the places after them are as they were
 pub cleared-past : (n : ℕ) (t : List ℕ) (i : ℕ) → n ≤ i → getD (cleared n t) i 0 ≡ getD t i 0
 cleared-past n t i h =
     let z : List ℕ = replicate n 0 in

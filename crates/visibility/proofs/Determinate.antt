@@ -5,7 +5,6 @@ use mathlib.Core.Path.{_≡_, refl, sym, ap, _∙_}
 use mathlib.Core.Logic.{⊎-elim, inl, inr}
 use mathlib.Core.Bool.{Bool, true, false}
 use mathlib.Core.List.{List, _++_}
-use mathlib.Core.Option.{Option}
 use lib.Dec.{ltb}
 use lib.Ieee.{Float}
 use lib.IntN.{ℤ}
@@ -20,7 +19,7 @@ use Rattle.model.specs.Map as model
 use Rattle.model.specs.Maps.{keys}
 use Rattle.model.specs.Refusal.{judge, refuseOpen, short}
 use Rattle.held.specs.Codes.{codes, pairCode}
-use Rattle.held.specs.Pairs.{Pairs, pairPlace, pairPlaces}
+use Rattle.held.specs.Pairs.{Pairs, PairsBy, pairPlace, pairPlaces}
 use Rattle.visibility.specs.Change.{Changing, Decided, Done, Lent, lentNeeds, refuseInput, refusedWith}
 use Rattle.held.specs.Holds.{Behind, Holds, Tables, needs}
 use Rattle.table.specs.Tables.{pad}
@@ -32,11 +31,11 @@ use Rattle.held.specs.declared.map.Map.{Map}
 use Rattle.held.specs.declared.map.Outcome.{Outcome}
 use Rattle.visibility.proofs.RefuseLaws.{batch-ragged}
 
--- ---- tables that hold one map, and have the same behind their needs
+-- ---- tables that hold one map, and are the same beyond their needs
 pad-one : (cap : ℕ) (l a b : List ℕ) → a ≡ pad cap l ++ drop cap a → b ≡ pad cap l ++ drop cap b → drop cap a ≡ drop cap b → a ≡ b
 pad-one cap l a b x y d = x ∙ ap (λ (u : List ℕ). pad cap l ++ u) d ∙ sym y
 
-pairs-one : (P : ℕ → ℕ → Option (Option ℕ)) (a b : List ℕ) → length a ≡ length b → Pairs P a → Pairs P b → drop pairPlaces a ≡ drop pairPlaces b → a ≡ b
+pairs-one : (P : PairsBy) (a b : List ℕ) → length a ≡ length b → Pairs P a → Pairs P b → drop pairPlaces a ≡ drop pairPlaces b → a ≡ b
 pairs-one P a b e x y d = ext-getD 0 a b e (λ i h. ⊎-elim (within i) (after i) (lt-or-ge i pairPlaces))
   where
     at : (l : List ℕ) → Pairs P l → (i : ℕ) → i < pairPlaces → getD l i 0 ≡ pairCode (P (i / maxPoints) (i % maxPoints))

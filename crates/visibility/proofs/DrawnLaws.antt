@@ -1,47 +1,29 @@
--- A layer's tables drawn anew hold the layer afterwards, and what stands behind their needs is untouched. Assumes nothing.
+-- A layer's tables drawn anew hold the layer afterwards, and what is beyond their needs is as it was. Assumes nothing.
 use Prim.Native.Nat.{ℕ, _≤_}
 use mathlib.Core.Path.{_≡_, ap, _∙_}
-use mathlib.Core.List.{List, [], _++_}
+use mathlib.Core.List.{List, _++_}
 use mathlib.Core.Option.{Option}
 use lib.ListN.{drop, length}
-use lib.Ieee.{Float}
 use Rattle.held.specs.Layers.{HoldsLayer, blocksOf, edgeAt, statusesOf}
 use Rattle.held.proofs.LayerLaws.{codes-count, statuses-length}
 use Rattle.model.specs.Batch.{Batch}
-use Rattle.model.specs.Cell.{reach}
 use Rattle.model.specs.ClosedForm.{Closed}
 use Rattle.model.specs.Corner.{anyBit}
 use Rattle.model.specs.Good.{bitsIn}
 use Rattle.model.specs.Layer.{Layer, Mark, Tests}
 use Rattle.model.specs.Limits.{maxCells, maxPoints}
-use Rattle.model.specs.Map as model
 use Rattle.model.specs.Maps.{Asc, get, isSome, keys}
-use Rattle.sight.specs.Blocked.{Stood}
 use Rattle.held.specs.Codes.{codes, pairCode}
-use Rattle.held.specs.Pairs.{PairsNamed, pairPlaces}
+use Rattle.held.specs.Pairs.{pairPlaces}
 use Rattle.table.specs.Tables.{pad}
 use Rattle.table.proofs.ListedLaws.{keys-length}
 use Rattle.held.specs.Holds.{Behind, Tables}
 use Rattle.visibility.specs.Layers.{stoodOf}
-use Rattle.visibility.specs.Redraw.{Below, Drawing, InRows, Redrawn}
+use Rattle.visibility.specs.Redraw.{Redrawn}
 use Rattle.visibility.proofs.BlockLaws.{blocks-are}
 use Rattle.held.proofs.PadLaws.{written-rest, written-whole}
 use Rattle.visibility.proofs.PairLaws.{pairs-are}
 use Rattle.visibility.proofs.StoodLaws.{stood-keys, stood-statuses}
-
--- what `redraw` promises, of the cells C
-abbrev pub Redraws : Float → Float → ℕ → List ℕ → List ℕ → List ℕ → List ℕ → List ℕ → ℕ → ℕ → Tables → Tables → Type 0
-Redraws size radius near C turned says ks moods n count t t′ =
-    (ch : Batch) (S : Stood) (B : List (Option ℕ)) (P : ℕ → ℕ → Option (Option ℕ)) → near ≡ reach (model.shiftOf size radius)
-    → Drawing C ch S B turned says ks moods (t .points) (t .statuses) (t .blockers) n count → PairsNamed P → InRows count P (t .pairs)
-    → Redrawn (model.tests size radius) C ch S B P (t .points) (t′ .points) (t .statuses) (t′ .statuses) (t .blockers) (t′ .blockers) (t .pairs) (t′ .pairs)
-
--- what `draw_afresh` promises, of the cells C
-abbrev pub Afresh : Float → Float → ℕ → List ℕ → List ℕ → List ℕ → List ℕ → List ℕ → ℕ → ℕ → Tables → Tables → Type 0
-Afresh size radius near C turned says ks moods n before t t′ =
-    (ch : Batch) (S : Stood) (P Q : ℕ → ℕ → Option (Option ℕ)) → near ≡ reach (model.shiftOf size radius)
-    → Drawing C ch S [] turned says ks moods (t .points) (t .statuses) (t .blockers) n 0 → Below 0 P → InRows before Q (t .pairs)
-    → Redrawn (model.tests size radius) C ch S [] P (t .points) (t′ .points) (t .statuses) (t′ .statuses) (t .blockers) (t′ .blockers) (t .pairs) (t′ .pairs)
 
 -- ---- the tables u drawn anew as u′
 module _ {t : Tests} {C : List ℕ} {ch : Batch} {ms : List Mark} {l l′ : Layer} (cl : Closed t C ch ms l l′) (order : Asc 0 (l .points))

@@ -10,6 +10,7 @@ use mathlib.Core.Option.{Option, none, some}
 use lib.Dec.{T, eqb, ltb}
 use lib.ListN.{getD, length}
 use borrow.Author.Tests.{lt-ltb, le-ltb}
+use Rattle.held.specs.Pairs.{PairsBy}
 use Rattle.ieee.proofs.Tools.{lt-or-ge}
 use Rattle.marks.specs.Standing.{Standing, begun, sooner}
 use Rattle.marks.proofs.StandingLaws.{standing-ahead}
@@ -38,7 +39,7 @@ stood-at ms ps [] i h = absurd (not-suc-le-zero h)
 stood-at ms ps (e ∷ r) zero h = refl
 stood-at ms ps (e ∷ r) (suc i) h = stood-at ms ps r i (le-of-suc-le-suc h)
 
--- the pair of two keys stands at their places
+-- the pair of two keys is at their places
 pub edge-at : (l : Layer) → Asc 0 (l .points) → (p q : ℕ) → has p (keys (l .points)) ≡ true → has q (keys (l .points)) ≡ true
     → edgeAt l (rank p (keys (l .points))) (rank q (keys (l .points))) ≡ edge p q (l .edges)
 unfolding edgeAt
@@ -120,7 +121,7 @@ module _ {t : Tests} {C : List ℕ} {ch : Batch} {ms : List Mark} {l l′ : Laye
   abbrev at : ℕ → ℕ × Standing
   at i = pointAt (stoodOf ms (l .points) (l′ .points)) i
 
-  abbrev found : ℕ → ℕ → Option (Option ℕ)
+  abbrev found : PairsBy
   found i j = pairBetween t C ch (edgeAt l) (at i .0) (at i .1) (at j .0) (at j .1)
 
   found-is : (i j : ℕ) → i < j → j < n → found i j ≡ edge (key i) (key j) (l′ .edges)

@@ -1,18 +1,17 @@
 -- Tables of which a part is lent: the part holds what the whole does, if it has its needs, and the whole what the part does. Assumes nothing.
-use Prim.Native.Nat.{ℕ, _+_, _*_, _≤_, _<_}
+use Prim.Native.Nat.{ℕ, _+_, _≤_, _<_}
 use native.Mathlib.Omega.{arith}
 use mathlib.Core.Path.{_≡_, sym, ap, _∙_}
 use mathlib.Core.List.{List, _++_, append-assoc}
-use mathlib.Core.Option.{Option}
 use lib.ListN.{List·getD-append, drop, getD, length, length-append, take, take-append-drop}
 use lib.Seq.{take-append-le, take-at}
 use Rattle.held.proofs.LayerLaws.{codes-count, statuses-length}
-use Rattle.held.proofs.PadLaws.{padded-room, written-whole}
+use Rattle.held.proofs.PadLaws.{written-whole}
 use Rattle.held.proofs.RoomLaws.{Enough}
 use Rattle.held.specs.Codes.{codes}
 use Rattle.held.specs.Holds.{Holds, Tables, needs}
 use Rattle.held.specs.Layers.{blocksOf, edgeAt, statusesOf}
-use Rattle.held.specs.Pairs.{Pairs, pairPlace, pairPlaces}
+use Rattle.held.specs.Pairs.{Pairs, PairsBy, pairPlace, pairPlaces}
 use Rattle.held.specs.declared.map.Map.{Map}
 use Rattle.model.specs.Limits.{maxCells, maxPoints}
 use Rattle.model.specs.Map as model
@@ -22,7 +21,7 @@ use Rattle.table.proofs.TableLaws.{pad-length}
 use Rattle.table.specs.Tables.{pad}
 use Rattle.visibility.specs.Run.{joined}
 
--- ---- one table, of the part u and what is behind it
+-- ---- one table, of the part u and what follows it
 module _ (cap : ℕ) (l u k : List ℕ) (few : length l ≤ cap) where
   part-padded : cap ≤ length u → u ++ k ≡ pad cap l ++ drop cap (u ++ k) → u ≡ pad cap l ++ drop cap u
   part-padded room e =
@@ -32,7 +31,7 @@ module _ (cap : ℕ) (l u k : List ℕ) (few : length l ≤ cap) where
   whole-padded : u ≡ pad cap l ++ drop cap u → u ++ k ≡ pad cap l ++ drop cap (u ++ k)
   whole-padded e = written-whole cap l (drop cap u ++ k) (u ++ k) few (ap (λ (z : List ℕ). z ++ k) e ∙ append-assoc (pad cap l) (drop cap u) k)
 
-module _ (P : ℕ → ℕ → Option (Option ℕ)) (u k : List ℕ) (room : pairPlaces ≤ length u) where
+module _ (P : PairsBy) (u k : List ℕ) (room : pairPlaces ≤ length u) where
   same : (i j : ℕ) → i < maxPoints → j < maxPoints → getD (u ++ k) (pairPlace i j) 0 ≡ getD u (pairPlace i j) 0
   same i j h g = let x : pairPlace i j < length u = omega arith in List·getD-append u k 0 (pairPlace i j) x
 

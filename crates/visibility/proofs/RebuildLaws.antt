@@ -11,8 +11,8 @@ use borrow.Author.Tests.{le-ltb, lt-ltb, ltb-false}
 use Rattle.corner.specs.Changes.{Cornered, numbered}
 use Rattle.corner.proofs.ChangeLaws.{inside-inner}
 use Rattle.limits.proofs.FloorLaws.{holds-cells}
-use Rattle.marks.specs.Marked.{Marking}
-use Rattle.model.specs.Cell.{reach}
+use Rattle.marks.specs.Marked.{Marking, Marks}
+use Rattle.model.specs.Cell as cell
 use Rattle.model.specs.ClosedForm.{Closed}
 use Rattle.model.specs.Corner.{Bits, anyBit, cornerCells}
 use Rattle.model.specs.Good.{Good, bitsIn}
@@ -35,14 +35,14 @@ use Rattle.held.specs.Layers.{HoldsLayer, edgeAt}
 use Rattle.visibility.specs.Layers.{stoodOf}
 use Rattle.visibility.specs.Open.{refusedWith}
 use Rattle.visibility.specs.Radius.{Rebuilding, refuseRadius}
-use Rattle.visibility.specs.Redraw.{Drawing, Redrawn}
+use Rattle.visibility.specs.Redraw.{Afresh, Drawing, Redrawn}
 use Rattle.held.specs.declared.map.Map.{Map}
 use Rattle.held.specs.declared.map.Outcome.{Outcome}
 use Rattle.visibility.proofs.BorderLaws.{corners-bordered, corners-length}
-use Rattle.visibility.proofs.DrawnLaws.{Afresh, drawn-behind, drawn-holds}
+use Rattle.visibility.proofs.DrawnLaws.{drawn-behind, drawn-holds}
 use Rattle.visibility.proofs.RowLaws.{edges-below, layer-rows}
 use Rattle.held.proofs.LayerLaws.{layer-few}
-use Rattle.visibility.proofs.MarkLaws.{Marks, marked-count, marked-few, marked-keys, marked-many, marked-words, numbered-keys}
+use Rattle.visibility.proofs.MarkLaws.{marked-count, marked-few, marked-keys, marked-many, marked-words, numbered-keys}
 use Rattle.held.proofs.RoomLaws.{Enough, long-enough}
 use Rattle.visibility.proofs.RefuseLaws.{inTurn, radius-turn, turn-none, turn-some}
 use Rattle.visibility.proofs.StoodLaws.{fitting, marking, stood-keys, stood-length}
@@ -65,15 +65,15 @@ module _ (s : Bool) (m : Map) (r : Float) where
         radius-new h = sym (radius-turn s m r ∙ rw (e, f, g, h) refl)
 
         module _ (h : badRadius (m .size) r ≡ false) where
-          pub radius-crowded : 1024 < m .cells → 6 ≡ refuseRadius s m r
-          radius-crowded k = sym (radius-turn s m r ∙ rw (e, f, g, h, lt-ltb 1024 (m .cells) k) refl)
+          pub radius-crowded : maxCells < m .cells → 6 ≡ refuseRadius s m r
+          radius-crowded k = sym (radius-turn s m r ∙ rw (e, f, g, h, lt-ltb maxCells (m .cells) k) refl)
 
-          module _ (k : m .cells ≤ 1024) where
-            pub radius-packed : 64 < m .points → 7 ≡ refuseRadius s m r
-            radius-packed w = sym (radius-turn s m r ∙ rw (e, f, g, h, le-ltb 1024 (m .cells) k, lt-ltb 64 (m .points) w) refl)
+          module _ (k : m .cells ≤ maxCells) where
+            pub radius-packed : maxPoints < m .points → 7 ≡ refuseRadius s m r
+            radius-packed w = sym (radius-turn s m r ∙ rw (e, f, g, h, le-ltb maxCells (m .cells) k, lt-ltb maxPoints (m .points) w) refl)
 
-            pub radius-passes : m .points ≤ 64 → 0 ≡ refuseRadius s m r
-            radius-passes w = sym (radius-turn s m r ∙ rw (e, f, g, h, le-ltb 1024 (m .cells) k, le-ltb 64 (m .points) w) refl)
+            pub radius-passes : m .points ≤ maxPoints → 0 ≡ refuseRadius s m r
+            radius-passes w = sym (radius-turn s m r ∙ rw (e, f, g, h, le-ltb maxCells (m .cells) k, le-ltb maxPoints (m .points) w) refl)
 
 -- ---- what the input alone decides, and what the model says of a map that is held
 module _ (m : Map) (r : Float) (t : Tables) where
@@ -91,8 +91,8 @@ module _ (m : Map) (r : Float) (t : Tables) where
     by-input : refuseRadius (short (needs t)) m r ≡ inTurn before 0
     by-input =
         let a : m .cells ≡ length (M .cells) = h .cells .count in
-        let x : m .cells ≤ 1024 = omega (arith, a, h .cells .room) in
-        radius-turn (short (needs t)) m r ∙ rw (le-ltb 1024 (m .cells) x, le-ltb 64 (m .points) (layer-few (h .layer))) refl
+        let x : m .cells ≤ maxCells = omega (arith, a, h .cells .room) in
+        radius-turn (short (needs t)) m r ∙ rw (le-ltb maxCells (m .cells) x, le-ltb maxPoints (m .points) (layer-few (h .layer))) refl
 
     -- the input refuses, or nothing but the number of points afterwards may
     judged-input : (n : ℕ) → n ≡ refuseRadius (short (needs t)) m r → (n ≡ 0 → ⊥) → n ≡ judge (needs t) (model.radius r) M M′
@@ -150,77 +150,77 @@ module _ (m : Map) (r : Float) (t : Tables) (pass : refuseRadius (short (needs t
     abbrev C : List ℕ
     C = M .cells
 
-    abbrev cs : List (ℕ × Bits)
-    cs = cornerCells C
+    abbrev changed : List (ℕ × Bits)
+    changed = cornerCells C
 
     abbrev l′ : Layer
     l′ = model.next (model.radius r) M .layer
 
     abbrev S : Stood
-    S = stoodOf (marks (T .shift) cs) [] (l′ .points)
+    S = stoodOf (marks (T .shift) changed) [] (l′ .points)
 
     -- the layer afterwards is the closed form, of no old layer
-    closed : Closed T C [] (marks (T .shift) cs) (model.emptyLayer r) l′
+    closed : Closed T C [] (marks (T .shift) changed) (model.emptyLayer r) l′
     unfolding model.next model.rebuilt
     closed = rw (h .size) (rebuild-closed (model.tests (M .size) r) (lawful (M .size) r (rw (h .size) at new-radius)) C (h .good .cellOrder) (h .good .inside) r)
 
     real : (k : ℕ) → isSome (get k (model.emptyLayer r .points)) ≡ anyBit (bitsIn (model.emptyLayer r .points) k)
     real = empty-inv r .real
 
-    corners-few : length cs ≤ needCorners
+    corners-few : length changed ≤ needCorners
     corners-few = let x = corners-length C in omega (arith, x, h .cells .room)
 
     same-cells : take (m .cells) (t .cells) ≡ C
     same-cells = holds-cells (t .cells) (m .cells) C (h .cells)
 
-    module _ {corners bits ks moods : List ℕ} {found shift n : ℕ} (f : Cornered (take (m .cells) (t .cells)) (replicate maxCells 0) corners (replicate maxCells 0) bits found)
-        (e : shift ≡ model.shiftOf (m .size) r) (g : Marks shift [] [] (take found corners) (take found bits) (replicate maxPoints 0) ks (replicate maxPoints 0) moods n) where
-      listed : Listed (numbered cs) (replicate maxCells 0) corners (replicate maxCells 0) bits found
+    module _ {corners altered present moods : List ℕ} {found shift n : ℕ} (f : Cornered (take (m .cells) (t .cells)) (replicate maxCells 0) corners (replicate maxCells 0) altered found)
+        (e : shift ≡ model.shiftOf (m .size) r) (g : Marks shift [] [] (take found corners) (take found altered) (replicate maxPoints 0) present (replicate maxPoints 0) moods n) where
+      listed : Listed (numbered changed) (replicate maxCells 0) corners (replicate maxCells 0) altered found
       listed =
           let z : length C ≤ length (replicate {A = ℕ} maxCells 0) = rw (length-replicate {A = ℕ} maxCells 0) (h .cells .room) in
-          subst (λ (u : List ℕ). Cornered u (replicate maxCells 0) corners (replicate maxCells 0) bits found) same-cells f (h .cells .order) (all-map C inside-inner (h .cells .inside)) z z
+          subst (λ (u : List ℕ). Cornered u (replicate maxCells 0) corners (replicate maxCells 0) altered found) same-cells f (h .cells .order) (all-map C inside-inner (h .cells .inside)) z z
 
-      given : Marking (T .shift) [] cs [] [] (take found corners) (take found bits)
+      given : Marking (T .shift) [] changed [] [] (take found corners) (take found altered)
       unfolding keys
       given =
-          marking cs closed tt (lawful (m .size) r new-radius .small) zero-le corners-few (corners-bordered C (h .cells .inside)) [] [] (take found corners) (take found bits) refl refl
-          (listed-cells (numbered cs) (replicate maxCells 0) corners (replicate maxCells 0) bits found listed ∙ numbered-keys cs)
-          (listed-numbers (numbered cs) (replicate maxCells 0) corners (replicate maxCells 0) bits found listed)
+          marking changed closed tt (lawful (m .size) r new-radius .small) zero-le corners-few (corners-bordered C (h .cells .inside)) [] [] (take found corners) (take found altered) refl refl
+          (listed-cells (numbered changed) (replicate maxCells 0) corners (replicate maxCells 0) altered found listed ∙ numbered-keys changed)
+          (listed-numbers (numbered changed) (replicate maxCells 0) corners (replicate maxCells 0) altered found listed)
 
-      marked : Marks (T .shift) [] [] (take found corners) (take found bits) (replicate maxPoints 0) ks (replicate maxPoints 0) moods n
+      marked : Marks (T .shift) [] [] (take found corners) (take found altered) (replicate maxPoints 0) present (replicate maxPoints 0) moods n
       marked =
-          subst (λ (v : ℕ). Marks v [] [] (take found corners) (take found bits) (replicate maxPoints 0) ks (replicate maxPoints 0) moods n) (e ∙ sym (tests-shift (m .size) r)) g
+          subst (λ (v : ℕ). Marks v [] [] (take found corners) (take found altered) (replicate maxPoints 0) present (replicate maxPoints 0) moods n) (e ∙ sym (tests-shift (m .size) r)) g
 
       many : maxPoints < n → maxPoints < length (l′ .points)
-      many = marked-many cs closed tt given marked
+      many = marked-many changed closed tt given marked
 
       few : n ≤ maxPoints → length (l′ .points) ≤ maxPoints
-      few = marked-few cs closed tt given marked
+      few = marked-few changed closed tt given marked
 
       module _ (room : length (l′ .points) ≤ maxPoints) where
         count : n ≡ length (l′ .points)
-        count = marked-count cs closed tt given marked room
+        count = marked-count changed closed tt given marked room
 
         -- what the drawing is handed
-        drawing : Drawing C [] S [] [] [] ks moods (t .points) (t .statuses) (t .blockers) n 0
+        drawing : Drawing C [] S [] [] [] present moods (t .points) (t .statuses) (t .blockers) n 0
         unfolding keys
         drawing =
-            let long = stood-length (marks (T .shift) cs) [] (l′ .points) in
+            let long = stood-length (marks (T .shift) changed) [] (l′ .points) in
             record {
               seeing = record {
                 order = h .cells .order;
                 inside = h .cells .inside;
                 changes = tt;
-                fitting = fitting cs closed tt zero-le corners-few;
-                turnedAre = refl;
+                fitting = fitting changed closed tt zero-le corners-few;
+                confirmedAre = refl;
                 fullAre = refl;
                 pointsAre = refl;
                 moodsAre = refl;
               };
               number = count ∙ sym long;
               few = rw long room;
-              keysAre = marked-keys cs closed tt given marked room ∙ ap (pad maxPoints) (sym (stood-keys (marks (T .shift) cs) [] (l′ .points)));
-              moodsAre = marked-words cs closed tt given marked room;
+              keysAre = marked-keys changed closed tt given marked room ∙ ap (pad maxPoints) (sym (stood-keys (marks (T .shift) changed) [] (l′ .points)));
+              moodsAre = marked-words changed closed tt given marked room;
               blocks = refl;
               blocksNamed = tt;
               pointsRoom = rebuild-room .1 .0;
@@ -228,9 +228,9 @@ module _ (m : Map) (r : Float) (t : Tables) (pass : refuseRadius (short (needs t
               blockersRoom = rebuild-room .1 .1 .1 .0;
             }
 
-        module _ (t′ : Tables) {near : ℕ} (same : t′ .cells ≡ t .cells) (v : near ≡ reach shift) (d : Afresh (m .size) r near (take (m .cells) (t .cells)) [] [] ks moods n (m .points) t t′) where
+        module _ (t′ : Tables) {reach : ℕ} (same : t′ .cells ≡ t .cells) (v : reach ≡ cell.reach shift) (d : Afresh (m .size) r reach (take (m .cells) (t .cells)) [] [] present moods n (m .points) t t′) where
           drawn : Redrawn T C [] S [] (edgeAt (model.emptyLayer r)) (t .points) (t′ .points) (t .statuses) (t′ .statuses) (t .blockers) (t′ .blockers) (t .pairs) (t′ .pairs)
-          drawn = subst (λ (u : List ℕ). Afresh (m .size) r near u [] [] ks moods n (m .points) t t′) same-cells d [] S (edgeAt (model.emptyLayer r)) (edgeAt (M .layer)) (v ∙ ap reach e) drawing (edges-below (model.emptyLayer r))
+          drawn = subst (λ (u : List ℕ). Afresh (m .size) r reach u [] [] present moods n (m .points) t t′) same-cells d [] S (edgeAt (model.emptyLayer r)) (edgeAt (M .layer)) (v ∙ ap cell.reach e) drawing (edges-below (model.emptyLayer r))
               (layer-rows (h .layer))
 
           held : HoldsLayer (t′ .points) (t′ .statuses) (t′ .blockers) (t′ .pairs) n l′
@@ -252,8 +252,8 @@ module _ (m : Map) (r : Float) (t : Tables) (pass : refuseRadius (short (needs t
           behind = drawn-behind closed tt real room t t′ drawn (rw same refl)
 
   -- ---- the call
-  module _ {corners bits ks moods : List ℕ} {found shift n : ℕ} (f : Cornered (take (m .cells) (t .cells)) (replicate maxCells 0) corners (replicate maxCells 0) bits found)
-      (e : shift ≡ model.shiftOf (m .size) r) (g : Marks shift [] [] (take found corners) (take found bits) (replicate maxPoints 0) ks (replicate maxPoints 0) moods n) where
+  module _ {corners altered present moods : List ℕ} {found shift n : ℕ} (f : Cornered (take (m .cells) (t .cells)) (replicate maxCells 0) corners (replicate maxCells 0) altered found)
+      (e : shift ≡ model.shiftOf (m .size) r) (g : Marks shift [] [] (take found corners) (take found altered) (replicate maxPoints 0) present (replicate maxPoints 0) moods n) where
     -- too many points: nothing is altered
     pub rebuild-packed : (o : Outcome) → maxPoints < n → o ≡ refusedWith 7 → Rebuilding m r t t o
     rebuild-packed o k q =
@@ -261,9 +261,9 @@ module _ (m : Map) (r : Float) (t : Tables) (pass : refuseRadius (short (needs t
         (λ M h. judged-points m r t h pass true (lt-ltb maxPoints _ (many h f e g k)))
 
     -- else the tables drawn anew
-    pub rebuild-done : (t′ : Tables) (near : ℕ) → t′ .cells ≡ t .cells → n ≤ maxPoints → near ≡ reach shift → Afresh (m .size) r near (take (m .cells) (t .cells)) [] [] ks moods n (m .points) t t′
+    pub rebuild-done : (t′ : Tables) (reach : ℕ) → t′ .cells ≡ t .cells → n ≤ maxPoints → reach ≡ cell.reach shift → Afresh (m .size) r reach (take (m .cells) (t .cells)) [] [] present moods n (m .points) t t′
         → Rebuilding m r t t′ (record { refusal = 0; map = record { size = m .size; radius = r; cells = m .cells; points = n } })
-    rebuild-done t′ near same k v d =
+    rebuild-done t′ reach same k v d =
         record {
           input = λ i z. absurd (suc-ne-zero _ (sym z ∙ pass));
           refusal = λ M h. judged-points m r t h pass false (le-ltb maxPoints _ (few h f e g k));

@@ -47,20 +47,20 @@ pub writing-none : (moods out : List ℕ) → Writing moods out out 0
 writing-none moods out = record { inside = zero-le; long = refl; is = λ S f e. refl }
 
 module _ (moods out out′ : List ℕ) (i : ℕ) (room : length moods ≤ length out) (w : Writing moods out out′ i) where
-  pub writing-more : i < length moods → (m : Mood) → ((s : Standing) → Small s → getD moods i 0 ≡ word s → m ≡ mood s) → Writing moods out (set out′ i (m .bits)) (i + 1)
+  pub writing-more : i < length moods → (m : Mood) → ((s : Standing) → Small s → getD moods i 0 ≡ word s → m ≡ mood s) → Writing moods out (set out′ i (m .status)) (i + 1)
   writing-more h m g = record {
     inside = omega arith;
-    long = length-set out′ i (m .bits) ∙ w .long;
+    long = length-set out′ i (m .status) ∙ w .long;
     is = λ S f e.
         let z : ℕ × Standing = (0, record { bits = zero4; old = 0; first = 0 }) in
         let l : length moods ≡ length S = ap length e ∙ words-length S in
         let j : i < length S = omega arith in
         let x = fitting-at S i z f j in
-        let b : m .bits ≡ getD (numbersOf S) i 0 =
-        ap (λ (y : Mood). y .bits) (g (getD S i z .1) (x .0) (ap (λ (y : List ℕ). getD y i 0) e ∙ words-at S i z j)) ∙ sym (numbers-at S i z j) in
+        let b : m .status ≡ getD (numbersOf S) i 0 =
+        ap (λ (y : Mood). y .status) (g (getD S i z .1) (x .0) (ap (λ (y : List ℕ). getD y i 0) e ∙ words-at S i z j)) ∙ sym (numbers-at S i z j) in
         let k : i < length (numbersOf S) = rw (numbers-length S) j in
         let q : i < length out = omega arith in
-        ap (λ (y : List ℕ). set y i (m .bits)) (w .is S f e) ∙ ap (set (mix (numbersOf S) out i) i) b ∙ mix-more (numbersOf S) out i 0 k q;
+        ap (λ (y : List ℕ). set y i (m .status)) (w .is S f e) ∙ ap (set (mix (numbersOf S) out i) i) b ∙ mix-more (numbersOf S) out i 0 k q;
   }
 
   pub writing-done : length moods ≤ i → (S : Stood) → Fitting S → moods ≡ wordsOf S → out′ ≡ numbersOf S ++ drop (length S) out
@@ -70,34 +70,34 @@ module _ (moods out out′ : List ℕ) (i : ℕ) (room : length moods ≤ length
       w .is S f e ∙ ap (mix (numbersOf S) out) j ∙ mix-done (numbersOf S) out (length S) (numbers-length S)
 
 -- ---- the three tables of the points
-module _ (t : Tests) (C : List ℕ) (ch : Batch) (S : Stood) (B : List (Option ℕ)) (turned full ks moods points statuses blockers : List ℕ) (n count : ℕ)
-    (d : Drawing C ch S B turned full ks moods points statuses blockers n count) where
-  front : take n ks ≡ keys S
+module _ (t : Tests) (C : List ℕ) (ch : Batch) (S : Stood) (B : List (Option ℕ)) (confirmed full present moods points statuses blockers : List ℕ) (n count : ℕ)
+    (d : Drawing C ch S B confirmed full present moods points statuses blockers n count) where
+  front : take n present ≡ keys S
   front =
       let e : n ≡ length (keys S) = d .number ∙ sym (keys-length S) in
       ap (λ (u : List ℕ). take n u) (d .keysAre) ∙ ap (λ (x : ℕ). take x (pad maxPoints (keys S))) e ∙ pad-take maxPoints (keys S)
 
-  pub seen : Seeing C ch S turned full (take n ks) (take n moods)
+  pub seen : Seeing C ch S confirmed full (take n present) (take n moods)
   seen = record {
     order = d .seeing .order;
     inside = d .seeing .inside;
     changes = d .seeing .changes;
     fitting = d .seeing .fitting;
-    turnedAre = d .seeing .turnedAre;
+    confirmedAre = d .seeing .confirmedAre;
     fullAre = d .seeing .fullAre;
     pointsAre = front;
     moodsAre = d .moodsAre;
   }
 
-  module _ (bits blocks points′ statuses′ blockers′ : List ℕ)
-      (f : (S : Stood) → Fitting S → take n moods ≡ wordsOf S → bits ≡ numbersOf S ++ drop (length S) (replicate 64 0))
-      (g : blocks ≡ codes (pointBlocks t C ch B S) ++ drop (length S) (replicate 64 0))
-      (a : Copied ks points points′) (b : Copied bits statuses statuses′) (e : Copied blocks blockers blockers′) where
-    bits-are : bits ≡ pad maxPoints (numbersOf S)
-    bits-are = f S (d .seeing .fitting) (d .moodsAre) ∙ padded (numbersOf S) (length S) maxPoints (numbers-length S)
+  module _ (newStatuses newBlockers points′ statuses′ blockers′ : List ℕ)
+      (f : (S : Stood) → Fitting S → take n moods ≡ wordsOf S → newStatuses ≡ numbersOf S ++ drop (length S) (replicate maxPoints 0))
+      (g : newBlockers ≡ codes (pointBlocks t C ch B S) ++ drop (length S) (replicate maxPoints 0))
+      (a : Copied present points points′) (b : Copied newStatuses statuses statuses′) (e : Copied newBlockers blockers blockers′) where
+    statuses-are : newStatuses ≡ pad maxPoints (numbersOf S)
+    statuses-are = f S (d .seeing .fitting) (d .moodsAre) ∙ padded (numbersOf S) (length S) maxPoints (numbers-length S)
 
-    blocks-are : blocks ≡ pad maxPoints (codes (pointBlocks t C ch B S))
-    blocks-are = g ∙ padded (codes (pointBlocks t C ch B S)) (length S) maxPoints (codes-length (pointBlocks t C ch B S) ∙ blocks-length t C ch B S)
+    blockers-are : newBlockers ≡ pad maxPoints (codes (pointBlocks t C ch B S))
+    blockers-are = g ∙ padded (codes (pointBlocks t C ch B S)) (length S) maxPoints (codes-length (pointBlocks t C ch B S) ∙ blocks-length t C ch B S)
 
     store : (l u u′ v : List ℕ) → u ≡ pad maxPoints l → length l ≤ maxPoints → maxPoints ≤ length v → Copied u v u′ → u′ ≡ pad maxPoints l ++ drop maxPoints v
     store l u u′ v q few room = copied u (pad maxPoints l) v u′ maxPoints q (pad-length maxPoints l few) room
@@ -106,7 +106,7 @@ module _ (t : Tests) (C : List ℕ) (ch : Batch) (S : Stood) (B : List (Option �
     drawn =
         let few = d .few in
         record {
-          keysAre = store (keys S) ks points′ points (d .keysAre) (rw (keys-length S) few) (d .pointsRoom) a;
-          statusesAre = store (numbersOf S) bits statuses′ statuses bits-are (rw (numbers-length S) few) (d .statusesRoom) b;
-          blocksAre = store (codes (pointBlocks t C ch B S)) blocks blockers′ blockers blocks-are (rw (codes-length (pointBlocks t C ch B S), blocks-length t C ch B S) few) (d .blockersRoom) e;
+          keysAre = store (keys S) present points′ points (d .keysAre) (rw (keys-length S) few) (d .pointsRoom) a;
+          statusesAre = store (numbersOf S) newStatuses statuses′ statuses statuses-are (rw (numbers-length S) few) (d .statusesRoom) b;
+          blocksAre = store (codes (pointBlocks t C ch B S)) newBlockers blockers′ blockers blockers-are (rw (codes-length (pointBlocks t C ch B S), blocks-length t C ch B S) few) (d .blockersRoom) e;
         }

@@ -10,6 +10,7 @@ use lib.ListN.{length}
 use lib.Ieee.{Float}
 use borrow.Author.Tests.{lt-ltb, le-ltb}
 use Rattle.limits.specs.Batches as grid
+use Rattle.model.specs.Limits.{maxBatch, maxCells, maxPoints}
 use Rattle.model.specs.Refusal.{badRadius, badSize, firstOf, outside, short, verdict}
 use Rattle.visibility.specs.Change.{refuseBatch}
 use Rattle.visibility.specs.Radius.{refuseRadius}
@@ -57,7 +58,7 @@ turn-none (b ∷ l) n a e = go (b .1) e (turn-none l n (a .1))
 
 -- ---- a batch
 abbrev ofEntries : List ℤ → List (ℕ × Bool)
-ofEntries l = (3, ltb 256 (length (grid.entries l))) ∷ (4, grid.disorder l) ∷ (5, outside (grid.entries l)) ∷ []
+ofEntries l = (3, ltb maxBatch (length (grid.entries l))) ∷ (4, grid.disorder l) ∷ (5, outside (grid.entries l)) ∷ []
 
 abbrev pub ofInput : Bool → Map → List ℤ → List (ℕ × Bool)
 ofInput s m l = (9, s) ∷ (1, badSize (m .size)) ∷ (2, badRadius (m .size) (m .radius)) ∷ ofEntries l
@@ -104,7 +105,7 @@ some false false false false = (3, refl)
 module _ (s : Bool) (m : Map) (l : List ℤ) (w p : Bool) where
   pub batch-ragged : grid.ragged l ≡ true → (n : ℕ) × (refuseBatch s m l w p ≡ suc n)
   batch-ragged e =
-      let k = some s (badSize (m .size)) (badRadius (m .size) (m .radius)) (ltb 256 (length (grid.entries l))) in
+      let k = some s (badSize (m .size)) (badRadius (m .size) (m .radius)) (ltb maxBatch (length (grid.entries l))) in
       (k .0, in-turn s m l w p ∙ rw e (k .1))
 
   pub batch-unread : s || grid.ragged l ≡ true → (n : ℕ) × (refuseBatch s m l w p ≡ suc n)
@@ -124,6 +125,6 @@ module _ (s : Bool) (m : Map) (l : List ℤ) (w p : Bool) where
 
 -- ---- a radius
 module _ (s : Bool) (m : Map) (r : Float) where
-  pub radius-turn : refuseRadius s m r ≡ cond s 9 (cond (badSize (m .size)) 1 (cond (badRadius (m .size) (m .radius) || badRadius (m .size) r) 2 (cond (ltb 1024 (m .cells)) 6 (cond (ltb 64 (m .points)) 7 0))))
+  pub radius-turn : refuseRadius s m r ≡ cond s 9 (cond (badSize (m .size)) 1 (cond (badRadius (m .size) (m .radius) || badRadius (m .size) r) 2 (cond (ltb maxCells (m .cells)) 6 (cond (ltb maxPoints (m .points)) 7 0))))
   unfolding refuseRadius verdict firstOf
   radius-turn = refl

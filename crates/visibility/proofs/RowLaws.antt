@@ -5,7 +5,7 @@ use native.Mathlib.Omega.{arith}
 use mathlib.Core.Path.{_≡_, refl, sym, ap, _∙_, subst}
 use mathlib.Core.Logic.{⊎-elim}
 use mathlib.Core.List.{List, [], _++_, append-nil}
-use mathlib.Core.Option.{Option, none}
+use mathlib.Core.Option.{none}
 use lib.ListN.{List·getD-eq-default, drop, drop-of-length-le, getD, length, replicate, take}
 use lib.Seq.{getD-take, length-take-le}
 use borrow.Author.Tests.{le-ltb}
@@ -16,19 +16,19 @@ use Rattle.model.specs.Layer.{Layer}
 use Rattle.model.specs.Limits.{maxPoints}
 use Rattle.held.specs.Codes.{pairCode}
 use Rattle.sight.specs.Paired.{Filled}
-use Rattle.held.specs.Pairs.{Pairs, PairsNamed, pairPlace, pairPlaces}
+use Rattle.held.specs.Pairs.{Pairs, PairsBy, PairsNamed, pairPlace, pairPlaces}
 use Rattle.table.specs.Copied.{Copied}
 use Rattle.visibility.specs.Redraw.{Below, InRows}
 use Rattle.visibility.proofs.ClearLaws.{cleared, cleared-at, cleared-drop, cleared-is, cleared-length, cleared-past}
 
 -- no pairs at all: the empty table has them
-pub none-named : (P : ℕ → ℕ → Option (Option ℕ)) → Below 0 P → PairsNamed P
+pub none-named : (P : PairsBy) → Below 0 P → PairsNamed P
 none-named P b i j = rw (b i j zero-le) tt
 
-pub none-pairs : (P : ℕ → ℕ → Option (Option ℕ)) → Below 0 P → Pairs P []
+pub none-pairs : (P : PairsBy) → Below 0 P → Pairs P []
 none-pairs P b i j x y = ap pairCode (sym (b i j zero-le))
 
-module _ (n : ℕ) (P : ℕ → ℕ → Option (Option ℕ)) (t : List ℕ) (w : InRows n P t) where
+module _ (n : ℕ) (P : PairsBy) (t : List ℕ) (w : InRows n P t) where
   -- more rows
   pub rows-more : (m : ℕ) → n ≤ m → m ≤ maxPoints → InRows m P t
   rows-more m h k = record { room = w .room; rows = k; pairs = w .pairs; below = λ i j x. w .below i j (omega arith) }
@@ -38,14 +38,14 @@ module _ (n : ℕ) (P : ℕ → ℕ → Option (Option ℕ)) (t : List ℕ) (w :
   rows-cleared i j x y =
       ⊎-elim (λ l. cleared-at (64 * n) t (pairPlace i j) (omega arith)) (λ l. cleared-past (64 * n) t (pairPlace i j) (omega arith) ∙ w .pairs i j x y ∙ ap pairCode (w .below i j l)) (lt-or-ge i n)
 
-  rows-filled : (Q : ℕ → ℕ → Option (Option ℕ)) (t′ : List ℕ) → Filled Q (cleared (64 * n) t) t′ → Filled Q t t′
+  rows-filled : (Q : PairsBy) (t′ : List ℕ) → Filled Q (cleared (64 * n) t) t′ → Filled Q t t′
   rows-filled Q t′ f =
       let h : 64 * n ≤ length t = omega (arith, w .rows, w .room) in
       let k : 64 * n ≤ pairPlaces = omega (arith, w .rows) in
       record { same = f .same ∙ cleared-length (64 * n) t h; pairs = f .pairs; rest = f .rest ∙ cleared-drop (64 * n) pairPlaces t k }
 
   -- its rows are cleared by u, and the pairs of s points written then
-  pub rows-drawn : (Q : ℕ → ℕ → Option (Option ℕ)) (u t′ : List ℕ) (s : ℕ) → u ≡ replicate (length (take (64 * n) t)) 0 → s ≤ n
+  pub rows-drawn : (Q : PairsBy) (u t′ : List ℕ) (s : ℕ) → u ≡ replicate (length (take (64 * n) t)) 0 → s ≤ n
       → (maxPoints * s ≤ length (u ++ drop (64 * n) t) → s ≤ maxPoints → Pairs (λ i j. none) (u ++ drop (64 * n) t) → Filled Q (u ++ drop (64 * n) t) t′) → Filled Q t t′
   rows-drawn Q u t′ s e k f =
       let h : 64 * n ≤ length t = omega (arith, w .rows, w .room) in
@@ -56,10 +56,10 @@ module _ (n : ℕ) (P : ℕ → ℕ → Option (Option ℕ)) (t : List ℕ) (w :
 
   -- a copy of its rows has its pairs
   rows-kept : (k : ℕ) → 64 * n ≤ k → k ≤ length t → Pairs P (take k t)
-  rows-kept k h l i j x y = ⊎-elim within past (lt-or-ge (pairPlace i j) k)
+  rows-kept k h l i j x y = ⊎-elim inside past (lt-or-ge (pairPlace i j) k)
     where
-      within : pairPlace i j < k → getD (take k t) (pairPlace i j) 0 ≡ pairCode (P i j)
-      within u = getD-take k t (pairPlace i j) 0 u ∙ w .pairs i j x y
+      inside : pairPlace i j < k → getD (take k t) (pairPlace i j) 0 ≡ pairCode (P i j)
+      inside u = getD-take k t (pairPlace i j) 0 u ∙ w .pairs i j x y
 
       past : k ≤ pairPlace i j → getD (take k t) (pairPlace i j) 0 ≡ pairCode (P i j)
       past u =

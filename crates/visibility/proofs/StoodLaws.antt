@@ -126,10 +126,10 @@ module _ (ms : List Mark) (ps : Points) where
         go true h = rw (h tt) refl
         go false h = refl
 
-marks-count : (s : ℕ) (cs : List (ℕ × Bits)) → length (marks s cs) ≡ 4 * length cs
+marks-count : (s : ℕ) (changed : List (ℕ × Bits)) → length (marks s changed) ≡ 4 * length changed
 unfolding marks
 marks-count s [] = refl
-marks-count s (c ∷ cs) = let e = marks-count s cs in omega arith
+marks-count s (c ∷ changed) = let e = marks-count s changed in omega arith
 
 -- ---- an update
 module _ {t : Tests} {C : List ℕ} {ch : Batch} {ms : List Mark} {l l′ : Layer} (cl : Closed t C ch ms l l′) where
@@ -153,7 +153,7 @@ module _ {t : Tests} {C : List ℕ} {ch : Batch} {ms : List Mark} {l l′ : Laye
   pub stood-statuses : numbersOf (stoodOf ms (l .points) (l′ .points)) ≡ statusesOf (l′ .points)
   stood-statuses = statuses-within (l′ .points) (asc-within 0 (l′ .points) (cl .good .pointOrder))
 
-  -- of the keys that stand at some time, those with a status in the end are the points afterwards
+  -- of the candidates, those with a status in the end are the points afterwards
   module _ (order : Asc 0 (l .points)) where
     abbrev over : List (ℕ × ℕ)
     over = ending (left ms (l .points)) (stand ms (keys (l .points)))
@@ -179,33 +179,33 @@ module _ {t : Tests} {C : List ℕ} {ch : Batch} {ms : List Mark} {l l′ : Laye
         ending-words (left ms (l .points)) (stand ms (keys (l .points))) ∙ ap (words (left ms (l .points))) over-keys ∙ sym (stood-words ms (l .points) (l′ .points))
 
 -- ---- the marks of corners
-module _ {t : Tests} {C : List ℕ} {ch : Batch} (cs : List (ℕ × Bits)) {l l′ : Layer} (cl : Closed t C ch (marks (t .shift) cs) l l′) (order : Asc 0 (l .points)) where
+module _ {t : Tests} {C : List ℕ} {ch : Batch} (changed : List (ℕ × Bits)) {l l′ : Layer} (cl : Closed t C ch (marks (t .shift) changed) l l′) (order : Asc 0 (l .points)) where
   -- The points that the marks leave are those of the layer afterwards, and their words are those of what is kept.
-  pub ended-keys : keys (ended (t .shift) (l .points) cs) ≡ keys (l′ .points)
+  pub ended-keys : keys (ended (t .shift) (l .points) changed) ≡ keys (l′ .points)
   ended-keys = over-keys cl order
 
-  pub ended-values : values (ended (t .shift) (l .points) cs) ≡ wordsOf (stoodOf (marks (t .shift) cs) (l .points) (l′ .points))
+  pub ended-values : values (ended (t .shift) (l .points) changed) ≡ wordsOf (stoodOf (marks (t .shift) changed) (l .points) (l′ .points))
   ended-values = over-values cl order
 
-  pub ended-length : length (ended (t .shift) (l .points) cs) ≡ length (l′ .points)
-  ended-length = sym (keys-length (ended (t .shift) (l .points) cs)) ∙ ap length ended-keys ∙ keys-length (l′ .points)
+  pub ended-length : length (ended (t .shift) (l .points) changed) ≡ length (l′ .points)
+  ended-length = sym (keys-length (ended (t .shift) (l .points) changed)) ∙ ap length ended-keys ∙ keys-length (l′ .points)
 
   -- a word has room for each
-  pub fitting : length (l .points) ≤ maxPoints → length cs ≤ needCorners → Fitting (stoodOf (marks (t .shift) cs) (l .points) (l′ .points))
+  pub fitting : length (l .points) ≤ maxPoints → length changed ≤ needCorners → Fitting (stoodOf (marks (t .shift) changed) (l .points) (l′ .points))
   fitting few count = go (l′ .points)
     where
-      go : (r : Points) → Fitting (stoodOf (marks (t .shift) cs) (l .points) r)
+      go : (r : Points) → Fitting (stoodOf (marks (t .shift) changed) (l .points) r)
       go [] = tt
       go (e ∷ r) =
-          let o = left-few (marks (t .shift) cs) (l .points) order (e .0) in
-          let f = left-first (marks (t .shift) cs) (l .points) (e .0) in
-          let n = marks-count (t .shift) cs in
+          let o = left-few (marks (t .shift) changed) (l .points) order (e .0) in
+          let f = left-first (marks (t .shift) changed) (l .points) (e .0) in
+          let n = marks-count (t .shift) changed in
           ((omega arith, omega arith), omega arith, go r)
 
   -- What is lent for the marks is as they ask.
-  pub marking : t .shift ≤ maxShift → length (l .points) ≤ maxPoints → length cs ≤ needCorners → All Bordered (keys cs) → (points statuses corners bits : List ℕ)
-      → points ≡ keys (l .points) → statuses ≡ statusesOf (l .points) → corners ≡ keys cs → bits ≡ values (numbered cs) → Marking (t .shift) (l .points) cs points statuses corners bits
-  marking small few count inside points statuses corners bits p s c b =
+  pub marking : t .shift ≤ maxShift → length (l .points) ≤ maxPoints → length changed ≤ needCorners → All Bordered (keys changed) → (points statuses corners altered : List ℕ)
+      → points ≡ keys (l .points) → statuses ≡ statusesOf (l .points) → corners ≡ keys changed → altered ≡ values (numbered changed) → Marking (t .shift) (l .points) changed points statuses corners altered
+  marking small few count inside points statuses corners altered p s c b =
       record {
         small = small;
         few = few;
@@ -216,5 +216,5 @@ module _ {t : Tests} {C : List ℕ} {ch : Batch} (cs : List (ℕ × Bits)) {l l�
         keysAre = p;
         statusesAre = s;
         cornersAre = c;
-        bitsAre = b;
+        alteredAre = b;
       }

@@ -15,7 +15,7 @@ use Rattle.model.specs.Limits.{maxBatch, maxCells, maxPoints, needConfirmed, ne
 use Rattle.model.specs.Map as model
 use Rattle.model.specs.Refusal.{badRadius, badSize, judge, outside, short, verdict}
 use Rattle.table.specs.Listed.{Listed}
-use Rattle.held.specs.Holds.{Behind, Holds, Tables, needs, noMap}
+use Rattle.held.specs.Holds.{Behind, Holds, Tables, needs, noMap, tablesOf}
 use Rattle.visibility.specs.declared.change.Changed.{Changed}
 use Rattle.held.specs.declared.map.Map.{Map}
 
@@ -26,6 +26,10 @@ pub record Lent : Type 0 where
   pub full : List ℕ
   pub corners : List ℕ
   pub altered : List ℕ
+
+abbrev pub lentOf : List ℕ → List ℕ → List ℕ → List ℕ → List ℕ → List ℕ → List ℕ → List ℕ → List ℕ → Lent
+lentOf cells points statuses blockers pairs confirmed full corners altered =
+    record { tables = tablesOf cells points statuses blockers pairs; confirmed = confirmed; full = full; corners = corners; altered = altered }
 
 abbrev pub lentNeeds : Lent → List (ℕ × ℕ)
 lentNeeds t = needs (t .tables) ++ ((length (t .confirmed), needConfirmed) ∷ (length (t .full), needConfirmed) ∷ (length (t .corners), needCorners) ∷ (length (t .altered), needCorners) ∷ [])

@@ -1,4 +1,4 @@
--- Runs of calls on a map, as the contracts alone have them, whatever each call lends. Definitions only.
+-- Runs of calls on a map, by the contracts alone, with any tables lent to each call. Definitions only.
 use Prim.Native.Nat.{ℕ, zero, suc}
 use mathlib.Core.Path.{_≡_}
 use mathlib.Core.Bool.{cond, _||_}
@@ -20,7 +20,7 @@ pub record State : Type 0 where
   pub map : Map
   pub tables : Tables
 
--- each of his tables is the part u that he lends, from its front on, and behind it the part k that he does not
+-- each of his tables is the part u that he lends, from its front on, and then the part k that he does not
 abbrev pub joined : Tables → Tables → Tables
 joined u k =
     record { cells = u .cells ++ k .cells; points = u .points ++ k .points; statuses = u .statuses ++ k .statuses; blockers = u .blockers ++ k .blockers; pairs = u .pairs ++ k .pairs }
@@ -30,7 +30,7 @@ abbrev pub goesOn : ℕ → Map → Map → Map
 goesOn zero given had = given
 goesOn (suc n) given had = had
 
--- a batch of whatever numbers, with whatever is lent; what is not lent stays
+-- a batch of any numbers, with any tables lent; what is not lent stays
 pub record Batched (s s′ : State) : Type 0 where
   pub numbers : List ℤ
   pub lent : Lent
@@ -41,7 +41,7 @@ pub record Batched (s s′ : State) : Type 0 where
   pub call : Changing (s .map) numbers lent left answer
   pub then : s′ ≡ record { map = goesOn (answer .refusal) (answer .map) (s .map); tables = joined (left .tables) kept }
 
--- a change to whatever radius
+-- a change to any radius
 pub record Resized (s s′ : State) : Type 0 where
   pub radius : Float
   pub lent : Tables

@@ -1,4 +1,4 @@
-// A batch on a map: judged first, then committed. A refusal alters nothing.
+// A batch on a map: judged first, then committed. A refused call leaves every table as it was.
 use crate::judge::short_tables;
 use crate::layer::redraw;
 use crate::plan::work_out;
@@ -9,21 +9,28 @@ use held::map::Map;
 use limits::judge::bad_size;
 use limits::judge::refuse_batch;
 use limits::radius::bad_radius;
+use sizes::BATCH;
+use sizes::CELLS;
+use sizes::CORNERS;
+use sizes::POINTS;
 use table::bytes::copy_bytes;
 use table::copy::copy;
 ghost use mathlib.Core.Path.{_≡_};
 ghost use mathlib.Core.Bool.{false};
-ghost use mathlib.Core.List.{List, [], _∷_};
+ghost use mathlib.Core.List.{[], _∷_};
 ghost use Prim.Native.Nat.{_*_, _≤_};
 ghost use lib.Dec.{ltb};
 ghost use lib.ListN.{length};
 ghost use Rattle.limits.specs.Batches.{entries};
-ghost use Rattle.model.specs.Cell.{reach};
-ghost use Rattle.model.specs.Limits.{maxCells, needConfirmed, needCorners};
-ghost use Rattle.model.specs.Map as model;
+ghost use Rattle.model.specs.Limits.{maxBatch, maxCells, maxPoints, needConfirmed, needCorners};
 ghost use Rattle.model.specs.Refusal.{short};
-ghost use Rattle.visibility.specs.Change.{Changing, Done, refuseBatch, refusedWith};
-ghost use Rattle.visibility.specs.Update.{Finishing, Updated};
+ghost use Rattle.visibility.specs.Change.{Changing, lentOf, refuseBatch, refusedWith};
+ghost use Rattle.visibility.specs.Update.{Finishes, Updated};
+
+// A batch of at most 16 entries counts as small: its numbers, and the corner changes that it can make.
+const FEW_NUMBERS: usize = 3 * 16;
+
+const FEW_CORNERS: usize = 9 * 16;
 
 // 0, whether something was confirmed, how many changes were confirmed, how many corners altered, and the map afterwards; or the
 // refusal's number, and all else zero.
@@ -65,7 +72,7 @@ fn judge(short: bool, map: Map, batch: &[i64]) -> u8
     if number != 0 {
         return number;
     }
-    if 1024 < map.cells {
+    if CELLS < map.cells {
         return 6;
     }
     0
@@ -79,41 +86,41 @@ fn finish(
     statuses: &mut [u8],
     blockers: &mut [u64],
     pairs: &mut [u64],
-    turned: &[u64],
-    says: &[u8],
-    cs: &[u64],
-    bits: &[u8],
-    ks: &[u64],
+    confirmed: &[u64],
+    full: &[u8],
+    corners: &[u64],
+    altered: &[u8],
+    present: &[u64],
     moods: &[u64],
     n: usize,
-    near: u64,
-    confirmed: &mut [u64],
-    full: &mut [u8],
-    corners: &mut [u64],
-    altered: &mut [u8],
+    reach: u64,
+    out_confirmed: &mut [u64],
+    out_full: &mut [u8],
+    out_corners: &mut [u64],
+    out_altered: &mut [u8],
 ) -> Changed
-    requires { ⌜ (1024 ≤ length (now cells)) × (n ≤ 64) × (64 ≤ length (now ks)) × (64 ≤ length (now moods)) × (map .points ≤ length (now blockers)) ⌝ }
-    ensures { λ r. ⌜ (r .refusal ≡ 0) × ((M : model.Map) (l : List model.Entry) → near ≡ reach (model.shiftOf (M .size) (M .layer .radius))
-        → Finishing map (record { cells = now (cells .entry); points = now (points .entry); statuses = now (statuses .entry); blockers = now (blockers .entry); pairs = now (pairs .entry) }) M l
-        (now (turned .entry)) (now (says .entry)) (now (cs .entry)) (now (bits .entry)) (now (ks .entry)) (now (moods .entry)) n
-        → needConfirmed ≤ length (now (confirmed .entry)) → needConfirmed ≤ length (now (full .entry)) → needCorners ≤ length (now (corners .entry)) → needCorners ≤ length (now (altered .entry))
-        → Done map M l
-        (record { tables = record { cells = now (cells .entry); points = now (points .entry); statuses = now (statuses .entry); blockers = now (blockers .entry); pairs = now (pairs .entry) }; confirmed = now (confirmed .entry); full = now (full .entry); corners = now (corners .entry); altered = now (altered .entry) })
-        (record { tables = record { cells = now (cells .exit); points = now (points .exit); statuses = now (statuses .exit); blockers = now (blockers .exit); pairs = now (pairs .exit) }; confirmed = now (confirmed .exit); full = now (full .exit); corners = now (corners .exit); altered = now (altered .exit) }) r) ⌝ }
+    requires { ⌜ (maxCells ≤ length (now cells)) × (n ≤ maxPoints) × (maxPoints ≤ length (now present)) × (maxPoints ≤ length (now moods))
+        × (map .points ≤ length (now blockers)) ⌝ }
+    ensures { λ r. ⌜ Finishes map
+        (lentOf (now (cells .entry)) (now (points .entry)) (now (statuses .entry)) (now (blockers .entry)) (now (pairs .entry))
+        (now («out_confirmed» .entry)) (now («out_full» .entry)) (now («out_corners» .entry)) (now («out_altered» .entry)))
+        (lentOf (now (cells .exit)) (now (points .exit)) (now (statuses .exit)) (now (blockers .exit)) (now (pairs .exit))
+        (now («out_confirmed» .exit)) (now («out_full» .exit)) (now («out_corners» .exit)) (now («out_altered» .exit)))
+        (now (confirmed .entry)) (now (full .entry)) (now (corners .entry)) (now (altered .entry)) (now (present .entry)) (now (moods .entry)) n reach r ⌝ }
 {
-    let after = commit(&mut cells[..1024], map.cells, turned, says);
+    let after = commit(&mut cells[..CELLS], map.cells, confirmed, full);
     let mut used = after;
-    if 1024 < after {
-        used = 1024;
+    if CELLS < after {
+        used = CELLS;
     }
     redraw(
         map.size,
         map.radius,
-        near,
+        reach,
         &cells[..used],
-        turned,
-        says,
-        ks,
+        confirmed,
+        full,
+        present,
         moods,
         n,
         map.points,
@@ -122,15 +129,15 @@ fn finish(
         blockers,
         pairs,
     );
-    copy(turned, confirmed);
-    copy_bytes(says, full);
-    copy(cs, corners);
-    copy_bytes(bits, altered);
+    copy(confirmed, out_confirmed);
+    copy_bytes(full, out_full);
+    copy(corners, out_corners);
+    copy_bytes(altered, out_altered);
     Changed {
         refusal: 0,
-        yes: 0 < turned.len(),
-        confirmed: turned.len(),
-        corners: cs.len(),
+        yes: 0 < confirmed.len(),
+        confirmed: confirmed.len(),
+        corners: corners.len(),
         map: Map {
             size: map.size,
             radius: map.radius,
@@ -140,7 +147,7 @@ fn finish(
     }
 }
 
-// The batch, once nothing but the number of points may refuse it. `cs` and `bits` are room for the corner changes.
+// The batch, once nothing but the number of points may refuse it. `corners` and `altered` are room for the corner changes.
 fn update_within(
     map: Map,
     cells: &mut [u64],
@@ -149,42 +156,46 @@ fn update_within(
     blockers: &mut [u64],
     pairs: &mut [u64],
     batch: &[i64],
-    cs: &mut [u64],
-    bits: &mut [u8],
-    confirmed: &mut [u64],
-    full: &mut [u8],
     corners: &mut [u64],
     altered: &mut [u8],
+    out_confirmed: &mut [u64],
+    out_full: &mut [u8],
+    out_corners: &mut [u64],
+    out_altered: &mut [u8],
 ) -> Changed
-    requires { ⌜ (map .cells ≤ 1024) × (1024 ≤ length (now cells)) × (map .points ≤ 64) × (64 ≤ length (now points)) × (64 ≤ length (now statuses)) × (64 ≤ length (now blockers)) × (length (entries (now batch)) ≤ 256)
-        × (9 * length (entries (now batch)) ≤ length (now cs)) × (length (now bits) ≡ length (now cs))
-        × (needConfirmed ≤ length (now confirmed)) × (needConfirmed ≤ length (now full)) × (needCorners ≤ length (now corners)) × (needCorners ≤ length (now altered)) ⌝ }
+    requires { ⌜ (map .cells ≤ maxCells) × (maxCells ≤ length (now cells)) × (map .points ≤ maxPoints)
+        × (maxPoints ≤ length (now points)) × (maxPoints ≤ length (now statuses)) × (maxPoints ≤ length (now blockers))
+        × (length (entries (now batch)) ≤ maxBatch) × (9 * length (entries (now batch)) ≤ length (now corners)) × (length (now altered) ≡ length (now corners))
+        × (needConfirmed ≤ length (now «out_confirmed»)) × (needConfirmed ≤ length (now «out_full»))
+        × (needCorners ≤ length (now «out_corners»)) × (needCorners ≤ length (now «out_altered»)) ⌝ }
     ensures { λ r. ⌜ Updated map (entries (now (batch .entry)))
-        (record { tables = record { cells = now (cells .entry); points = now (points .entry); statuses = now (statuses .entry); blockers = now (blockers .entry); pairs = now (pairs .entry) }; confirmed = now (confirmed .entry); full = now (full .entry); corners = now (corners .entry); altered = now (altered .entry) })
-        (record { tables = record { cells = now (cells .exit); points = now (points .exit); statuses = now (statuses .exit); blockers = now (blockers .exit); pairs = now (pairs .exit) }; confirmed = now (confirmed .exit); full = now (full .exit); corners = now (corners .exit); altered = now (altered .exit) }) r ⌝ }
+        (lentOf (now (cells .entry)) (now (points .entry)) (now (statuses .entry)) (now (blockers .entry)) (now (pairs .entry))
+        (now («out_confirmed» .entry)) (now («out_full» .entry)) (now («out_corners» .entry)) (now («out_altered» .entry)))
+        (lentOf (now (cells .exit)) (now (points .exit)) (now (statuses .exit)) (now (blockers .exit)) (now (pairs .exit))
+        (now («out_confirmed» .exit)) (now («out_full» .exit)) (now («out_corners» .exit)) (now («out_altered» .exit))) r ⌝ }
 {
-    let mut turned = [0u64; 256];
-    let mut says = [0u8; 256];
-    let mut ks = [0u64; 64];
-    let mut moods = [0u64; 64];
+    let mut confirmed = [0u64; BATCH];
+    let mut full = [0u8; BATCH];
+    let mut present = [0u64; POINTS];
+    let mut moods = [0u64; POINTS];
     let plan = work_out(
         map,
         cells,
         points,
         statuses,
         batch,
-        &mut turned,
-        &mut says,
-        cs,
-        bits,
-        &mut ks,
+        &mut confirmed,
+        &mut full,
+        corners,
+        altered,
+        &mut present,
         &mut moods,
     );
-    if 64 < plan.points {
+    if POINTS < plan.points {
         return refused(7);
     }
-    let changes = plan.changes;
-    let found = plan.altered;
+    let changes = plan.confirmed;
+    let found = plan.corners;
     finish(
         map,
         cells,
@@ -192,22 +203,22 @@ fn update_within(
         statuses,
         blockers,
         pairs,
-        &turned[..changes],
-        &says[..changes],
-        &cs[..found],
-        &bits[..found],
-        &ks[..],
+        &confirmed[..changes],
+        &full[..changes],
+        &corners[..found],
+        &altered[..found],
+        &present[..],
         &moods[..],
         plan.points,
-        plan.near,
-        confirmed,
-        full,
-        corners,
-        altered,
+        plan.reach,
+        out_confirmed,
+        out_full,
+        out_corners,
+        out_altered,
     )
 }
 
-// The same, with the room lent. Arrays are cleared first, so a batch of at most 16 entries gets small ones.
+// The same, with the room lent. Arrays are cleared first, so a small batch gets small ones.
 fn update(
     map: Map,
     cells: &mut [u64],
@@ -216,20 +227,25 @@ fn update(
     blockers: &mut [u64],
     pairs: &mut [u64],
     batch: &[i64],
-    confirmed: &mut [u64],
-    full: &mut [u8],
-    corners: &mut [u64],
-    altered: &mut [u8],
+    out_confirmed: &mut [u64],
+    out_full: &mut [u8],
+    out_corners: &mut [u64],
+    out_altered: &mut [u8],
 ) -> Changed
-    requires { ⌜ (map .cells ≤ 1024) × (1024 ≤ length (now cells)) × (map .points ≤ 64) × (64 ≤ length (now points)) × (64 ≤ length (now statuses)) × (64 ≤ length (now blockers)) × (length (entries (now batch)) ≤ 256)
-        × (needConfirmed ≤ length (now confirmed)) × (needConfirmed ≤ length (now full)) × (needCorners ≤ length (now corners)) × (needCorners ≤ length (now altered)) ⌝ }
+    requires { ⌜ (map .cells ≤ maxCells) × (maxCells ≤ length (now cells)) × (map .points ≤ maxPoints)
+        × (maxPoints ≤ length (now points)) × (maxPoints ≤ length (now statuses)) × (maxPoints ≤ length (now blockers))
+        × (length (entries (now batch)) ≤ maxBatch)
+        × (needConfirmed ≤ length (now «out_confirmed»)) × (needConfirmed ≤ length (now «out_full»))
+        × (needCorners ≤ length (now «out_corners»)) × (needCorners ≤ length (now «out_altered»)) ⌝ }
     ensures { λ r. ⌜ Updated map (entries (now (batch .entry)))
-        (record { tables = record { cells = now (cells .entry); points = now (points .entry); statuses = now (statuses .entry); blockers = now (blockers .entry); pairs = now (pairs .entry) }; confirmed = now (confirmed .entry); full = now (full .entry); corners = now (corners .entry); altered = now (altered .entry) })
-        (record { tables = record { cells = now (cells .exit); points = now (points .exit); statuses = now (statuses .exit); blockers = now (blockers .exit); pairs = now (pairs .exit) }; confirmed = now (confirmed .exit); full = now (full .exit); corners = now (corners .exit); altered = now (altered .exit) }) r ⌝ }
+        (lentOf (now (cells .entry)) (now (points .entry)) (now (statuses .entry)) (now (blockers .entry)) (now (pairs .entry))
+        (now («out_confirmed» .entry)) (now («out_full» .entry)) (now («out_corners» .entry)) (now («out_altered» .entry)))
+        (lentOf (now (cells .exit)) (now (points .exit)) (now (statuses .exit)) (now (blockers .exit)) (now (pairs .exit))
+        (now («out_confirmed» .exit)) (now («out_full» .exit)) (now («out_corners» .exit)) (now («out_altered» .exit))) r ⌝ }
 {
-    if batch.len() <= 48 {
-        let mut cs = [0u64; 144];
-        let mut bits = [0u8; 144];
+    if batch.len() <= FEW_NUMBERS {
+        let mut corners = [0u64; FEW_CORNERS];
+        let mut altered = [0u8; FEW_CORNERS];
         return update_within(
             map,
             cells,
@@ -238,16 +254,16 @@ fn update(
             blockers,
             pairs,
             batch,
-            &mut cs[..],
-            &mut bits[..],
-            confirmed,
-            full,
-            corners,
-            altered,
+            &mut corners[..],
+            &mut altered[..],
+            out_confirmed,
+            out_full,
+            out_corners,
+            out_altered,
         );
     }
-    let mut cs = [0u64; 2304];
-    let mut bits = [0u8; 2304];
+    let mut corners = [0u64; CORNERS];
+    let mut altered = [0u8; CORNERS];
     update_within(
         map,
         cells,
@@ -256,12 +272,12 @@ fn update(
         blockers,
         pairs,
         batch,
-        &mut cs[..],
-        &mut bits[..],
-        confirmed,
-        full,
-        corners,
-        altered,
+        &mut corners[..],
+        &mut altered[..],
+        out_confirmed,
+        out_full,
+        out_corners,
+        out_altered,
     )
 }
 
@@ -269,16 +285,16 @@ fn update(
 fn short_outputs(confirmed: usize, full: usize, corners: usize, altered: usize) -> bool
     ensures { λ r. ⌜ r ≡ short ((confirmed, needConfirmed) ∷ (full, needConfirmed) ∷ (corners, needCorners) ∷ (altered, needCorners) ∷ []) ⌝ }
 {
-    if confirmed < 256 {
+    if confirmed < BATCH {
         return true;
     }
-    if full < 256 {
+    if full < BATCH {
         return true;
     }
-    if corners < 2304 {
+    if corners < CORNERS {
         return true;
     }
-    altered < 2304
+    altered < CORNERS
 }
 
 // Changes the map's cells as the batch says, and the points, pairs and blockers over them. `confirmed` and `full` get the confirmed
@@ -297,8 +313,10 @@ pub fn change_cells(
     altered: &mut [u8],
 ) -> Changed
     ensures { λ r. ⌜ Changing map (now (batch .entry))
-        (record { tables = record { cells = now (cells .entry); points = now (points .entry); statuses = now (statuses .entry); blockers = now (blockers .entry); pairs = now (pairs .entry) }; confirmed = now (confirmed .entry); full = now (full .entry); corners = now (corners .entry); altered = now (altered .entry) })
-        (record { tables = record { cells = now (cells .exit); points = now (points .exit); statuses = now (statuses .exit); blockers = now (blockers .exit); pairs = now (pairs .exit) }; confirmed = now (confirmed .exit); full = now (full .exit); corners = now (corners .exit); altered = now (altered .exit) }) r ⌝ }
+        (lentOf (now (cells .entry)) (now (points .entry)) (now (statuses .entry)) (now (blockers .entry)) (now (pairs .entry))
+        (now (confirmed .entry)) (now (full .entry)) (now (corners .entry)) (now (altered .entry)))
+        (lentOf (now (cells .exit)) (now (points .exit)) (now (statuses .exit)) (now (blockers .exit)) (now (pairs .exit))
+        (now (confirmed .exit)) (now (full .exit)) (now (corners .exit)) (now (altered .exit))) r ⌝ }
 {
     let mut short = short_tables(
         cells.len(),
@@ -315,10 +333,10 @@ pub fn change_cells(
         return refused(number);
     }
     let n = map.cells;
-    if 1024 < count_after(&cells[..n], batch) {
+    if CELLS < count_after(&cells[..n], batch) {
         return refused(6);
     }
-    if 64 < map.points {
+    if POINTS < map.points {
         return refused(7);
     }
     update(

@@ -1,4 +1,7 @@
 // The refusal 9 of a map's tables (RULES 2.1, 4.1).
+use sizes::CELLS;
+use sizes::PAIRS;
+use sizes::POINTS;
 ghost use mathlib.Core.Path.{_≡_};
 ghost use mathlib.Core.List.{[], _∷_};
 ghost use Rattle.model.specs.Limits.{maxCells, maxPoints};
@@ -13,19 +16,20 @@ pub(crate) fn short_tables(
     blockers: usize,
     pairs: usize,
 ) -> bool
-    ensures { λ r. ⌜ r ≡ short ((cells, maxCells) ∷ (points, maxPoints) ∷ (statuses, maxPoints) ∷ (blockers, maxPoints) ∷ (pairs, pairPlaces) ∷ []) ⌝ }
+    ensures { λ r. ⌜ r ≡ short
+        ((cells, maxCells) ∷ (points, maxPoints) ∷ (statuses, maxPoints) ∷ (blockers, maxPoints) ∷ (pairs, pairPlaces) ∷ []) ⌝ }
 {
-    if cells < 1024 {
+    if cells < CELLS {
         return true;
     }
-    if points < 64 {
+    if points < POINTS {
         return true;
     }
-    if statuses < 64 {
+    if statuses < POINTS {
         return true;
     }
-    if blockers < 64 {
+    if blockers < POINTS {
         return true;
     }
-    pairs < 4096
+    pairs < PAIRS
 }

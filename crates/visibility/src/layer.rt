@@ -2,31 +2,41 @@
 use marks::mood::Mood;
 use sight::blocker::block_points;
 use sight::pair::join_pairs;
+use sizes::PAIRS;
+use sizes::POINTS;
 use table::bytes::copy_bytes;
 use table::copy::clear;
 use table::copy::copy;
 ghost use mathlib.Core.Path.{_≡_};
-ghost use mathlib.Core.List.{List, [], _++_};
+ghost use mathlib.Core.List.{List, _++_};
 ghost use mathlib.Core.Option.{Option};
 ghost use Prim.Native.Nat.{ℕ, _*_, _≤_};
 ghost use lib.ListN.{drop, length};
+ghost use Rattle.held.specs.Holds.{tablesOf};
+ghost use Rattle.held.specs.Pairs.{Pairs, PairsBy, PairsNamed, pairPlaces};
 ghost use Rattle.model.specs.Batch.{Batch};
-ghost use Rattle.model.specs.Cell.{reach};
+ghost use Rattle.model.specs.Cell as cell;
+ghost use Rattle.model.specs.Limits.{maxPoints};
 ghost use Rattle.model.specs.Map.{shiftOf, tests};
 ghost use Rattle.sight.specs.Blocked.{Fitting, Seeing, Stood, wordsOf};
 ghost use Rattle.sight.specs.Paired.{Filled, pairAt};
-ghost use Rattle.held.specs.Pairs.{Pairs, PairsNamed};
 ghost use Rattle.visibility.specs.Layers.{numbersOf};
-ghost use Rattle.visibility.specs.Redraw.{Below, Drawing, Drawn, InRows, Redrawn};
+ghost use Rattle.visibility.specs.Redraw.{Afresh, Drawing, Drawn, InRows, Redraws, ReplacesPairs};
+
+// At most FEW points count as few: the rows of their pairs.
+const FEW: usize = 16;
+
+const FEW_PAIRS: usize = FEW * POINTS;
 
 // Writes the statuses of the points to the front of `out`.
 fn write_statuses(moods: &[u64], out: &mut [u8])
     requires { ⌜ length (now moods) ≤ length (now out) ⌝ }
-    ensures { λ r. ⌜ ((S : Stood) → Fitting S → now (moods .entry) ≡ wordsOf S → now (out .exit) ≡ numbersOf S ++ drop (length S) (now (out .entry))) ⌝ }
+    ensures { λ r. ⌜ ((S : Stood) → Fitting S → now (moods .entry) ≡ wordsOf S
+        → now (out .exit) ≡ numbersOf S ++ drop (length S) (now (out .entry))) ⌝ }
 {
     let mut i = 0;
     while i < moods.len() {
-        out[i] = Mood::of_word(moods[i]).bits;
+        out[i] = Mood::of_word(moods[i]).status;
         i += 1;
     }
 }
@@ -36,11 +46,11 @@ fn write_statuses(moods: &[u64], out: &mut [u8])
 fn draw_points(
     size: f64,
     radius: f64,
-    near: u64,
+    reach: u64,
     cells: &[u64],
-    turned: &[u64],
+    confirmed: &[u64],
     full: &[u8],
-    ks: &[u64],
+    present: &[u64],
     moods: &[u64],
     n: usize,
     count: usize,
@@ -48,29 +58,31 @@ fn draw_points(
     statuses: &mut [u8],
     blockers: &mut [u64],
 )
-    requires { ⌜ (n ≤ 64) × (64 ≤ length (now ks)) × (64 ≤ length (now moods)) × (count ≤ length (now blockers)) ⌝ }
-    ensures { λ r. ⌜ ((ch : Batch) (S : Stood) (B : List (Option ℕ)) → near ≡ reach (shiftOf size radius)
-        → Drawing (now (cells .entry)) ch S B (now (turned .entry)) (now (full .entry)) (now (ks .entry)) (now (moods .entry)) (now (points .entry)) (now (statuses .entry)) (now (blockers .entry)) n count
-        → Drawn (tests size radius) (now (cells .entry)) ch S B (now (points .entry)) (now (points .exit)) (now (statuses .entry)) (now (statuses .exit)) (now (blockers .entry)) (now (blockers .exit))) ⌝ }
+    requires { ⌜ (n ≤ maxPoints) × (maxPoints ≤ length (now present)) × (maxPoints ≤ length (now moods)) × (count ≤ length (now blockers)) ⌝ }
+    ensures { λ r. ⌜ ((ch : Batch) (S : Stood) (B : List (Option ℕ)) → reach ≡ cell.reach (shiftOf size radius)
+        → Drawing (now (cells .entry)) ch S B (now (confirmed .entry)) (now (full .entry)) (now (present .entry)) (now (moods .entry))
+        (now (points .entry)) (now (statuses .entry)) (now (blockers .entry)) n count
+        → Drawn (tests size radius) (now (cells .entry)) ch S B (now (points .entry)) (now (points .exit))
+        (now (statuses .entry)) (now (statuses .exit)) (now (blockers .entry)) (now (blockers .exit))) ⌝ }
 {
-    let mut bits = [0u8; 64];
-    write_statuses(&moods[..n], &mut bits[..]);
-    let mut blocks = [0u64; 64];
+    let mut new_statuses = [0u8; POINTS];
+    write_statuses(&moods[..n], &mut new_statuses[..]);
+    let mut new_blockers = [0u64; POINTS];
     block_points(
         size,
         radius,
-        near,
+        reach,
         cells,
-        turned,
+        confirmed,
         full,
-        &ks[..n],
+        &present[..n],
         &moods[..n],
         &blockers[..count],
-        &mut blocks[..],
+        &mut new_blockers[..],
     );
-    copy(ks, points);
-    copy_bytes(&bits[..], statuses);
-    copy(&blocks[..], blockers);
+    copy(present, points);
+    copy_bytes(&new_statuses[..], statuses);
+    copy(&new_blockers[..], blockers);
 }
 
 // Writes the pairs of the points over a table whose pairs are in its first `rows` rows, from the old pairs.
@@ -78,22 +90,33 @@ fn draw_pairs(
     size: f64,
     radius: f64,
     cells: &[u64],
-    turned: &[u64],
+    confirmed: &[u64],
     full: &[u8],
-    ks: &[u64],
+    present: &[u64],
     moods: &[u64],
     rows: usize,
     old: &[u64],
     pairs: &mut [u64],
 )
-    requires { ⌜ (rows ≤ 64) × (64 * rows ≤ length (now pairs)) ⌝ }
-    ensures { λ r. ⌜ ((ch : Batch) (S : Stood) (P Q : ℕ → ℕ → Option (Option ℕ)) → Seeing (now (cells .entry)) ch S (now (turned .entry)) (now (full .entry)) (now (ks .entry)) (now (moods .entry)) → length S ≤ rows
-        → Pairs P (now (old .entry)) → PairsNamed P → InRows rows Q (now (pairs .entry))
+    requires { ⌜ (rows ≤ maxPoints) × (maxPoints * rows ≤ length (now pairs)) ⌝ }
+    ensures { λ r. ⌜ ((ch : Batch) (S : Stood) (P Q : PairsBy)
+        → Seeing (now (cells .entry)) ch S (now (confirmed .entry)) (now (full .entry)) (now (present .entry)) (now (moods .entry))
+        → length S ≤ rows → Pairs P (now (old .entry)) → PairsNamed P → InRows rows Q (now (pairs .entry))
         → Filled (pairAt (tests size radius) (now (cells .entry)) ch P S) (now (pairs .entry)) (now (pairs .exit))) ⌝ }
 {
-    let used = 64 * rows;
+    let used = POINTS * rows;
     clear(&mut pairs[..used]);
-    join_pairs(size, radius, cells, turned, full, ks, moods, old, pairs);
+    join_pairs(
+        size,
+        radius,
+        cells,
+        confirmed,
+        full,
+        present,
+        moods,
+        old,
+        pairs,
+    );
 }
 
 fn greater(a: usize, b: usize) -> usize
@@ -107,29 +130,29 @@ fn replace_pairs(
     size: f64,
     radius: f64,
     cells: &[u64],
-    turned: &[u64],
+    confirmed: &[u64],
     full: &[u8],
-    ks: &[u64],
+    present: &[u64],
     moods: &[u64],
     count: usize,
     kept: &mut [u64],
     pairs: &mut [u64],
 )
-    requires { ⌜ (length (now ks) ≤ 64) × (count ≤ 64) × (64 * count ≤ length (now kept)) × (length (now kept) ≤ length (now pairs)) × (4096 ≤ length (now pairs)) ⌝ }
-    ensures { λ r. ⌜ ((ch : Batch) (S : Stood) (P : ℕ → ℕ → Option (Option ℕ)) → Seeing (now (cells .entry)) ch S (now (turned .entry)) (now (full .entry)) (now (ks .entry)) (now (moods .entry))
-        → PairsNamed P → InRows count P (now (pairs .entry))
-        → Filled (pairAt (tests size radius) (now (cells .entry)) ch P S) (now (pairs .entry)) (now (pairs .exit))) ⌝ }
+    requires { ⌜ (length (now present) ≤ maxPoints) × (count ≤ maxPoints) × (maxPoints * count ≤ length (now kept))
+        × (length (now kept) ≤ length (now pairs)) × (pairPlaces ≤ length (now pairs)) ⌝ }
+    ensures { λ r. ⌜ ReplacesPairs size radius (now (cells .entry)) (now (confirmed .entry)) (now (full .entry))
+        (now (present .entry)) (now (moods .entry)) count (now (pairs .entry)) (now (pairs .exit)) ⌝ }
 {
     let places = kept.len();
     copy(&pairs[..places], kept);
-    let rows = greater(ks.len(), count);
+    let rows = greater(present.len(), count);
     draw_pairs(
         size,
         radius,
         cells,
-        turned,
+        confirmed,
         full,
-        ks,
+        present,
         moods,
         rows,
         kept,
@@ -142,44 +165,43 @@ fn redraw_pairs(
     size: f64,
     radius: f64,
     cells: &[u64],
-    turned: &[u64],
+    confirmed: &[u64],
     full: &[u8],
-    ks: &[u64],
+    present: &[u64],
     moods: &[u64],
     count: usize,
     pairs: &mut [u64],
 )
-    requires { ⌜ length (now ks) ≤ 64 ⌝ }
-    ensures { λ r. ⌜ ((ch : Batch) (S : Stood) (P : ℕ → ℕ → Option (Option ℕ)) → Seeing (now (cells .entry)) ch S (now (turned .entry)) (now (full .entry)) (now (ks .entry)) (now (moods .entry))
-        → PairsNamed P → InRows count P (now (pairs .entry))
-        → Filled (pairAt (tests size radius) (now (cells .entry)) ch P S) (now (pairs .entry)) (now (pairs .exit))) ⌝ }
+    requires { ⌜ length (now present) ≤ maxPoints ⌝ }
+    ensures { λ r. ⌜ ReplacesPairs size radius (now (cells .entry)) (now (confirmed .entry)) (now (full .entry))
+        (now (present .entry)) (now (moods .entry)) count (now (pairs .entry)) (now (pairs .exit)) ⌝ }
 {
-    if pairs.len() < 4096 || 64 < count {
+    if pairs.len() < PAIRS || POINTS < count {
         return;
     }
-    if count <= 16 {
-        let mut few = [0u64; 1024];
+    if count <= FEW {
+        let mut few = [0u64; FEW_PAIRS];
         replace_pairs(
             size,
             radius,
             cells,
-            turned,
+            confirmed,
             full,
-            ks,
+            present,
             moods,
             count,
             &mut few[..],
             pairs,
         );
     } else {
-        let mut many = [0u64; 4096];
+        let mut many = [0u64; PAIRS];
         replace_pairs(
             size,
             radius,
             cells,
-            turned,
+            confirmed,
             full,
-            ks,
+            present,
             moods,
             count,
             &mut many[..],
@@ -192,11 +214,11 @@ fn redraw_pairs(
 pub(crate) fn redraw(
     size: f64,
     radius: f64,
-    near: u64,
+    reach: u64,
     cells: &[u64],
-    turned: &[u64],
+    confirmed: &[u64],
     full: &[u8],
-    ks: &[u64],
+    present: &[u64],
     moods: &[u64],
     n: usize,
     count: usize,
@@ -205,20 +227,20 @@ pub(crate) fn redraw(
     blockers: &mut [u64],
     pairs: &mut [u64],
 )
-    requires { ⌜ (n ≤ 64) × (64 ≤ length (now ks)) × (64 ≤ length (now moods)) × (count ≤ length (now blockers)) ⌝ }
-    ensures { λ r. ⌜ ((ch : Batch) (S : Stood) (B : List (Option ℕ)) (P : ℕ → ℕ → Option (Option ℕ)) → near ≡ reach (shiftOf size radius)
-        → Drawing (now (cells .entry)) ch S B (now (turned .entry)) (now (full .entry)) (now (ks .entry)) (now (moods .entry)) (now (points .entry)) (now (statuses .entry)) (now (blockers .entry)) n count
-        → PairsNamed P → InRows count P (now (pairs .entry))
-        → Redrawn (tests size radius) (now (cells .entry)) ch S B P (now (points .entry)) (now (points .exit)) (now (statuses .entry)) (now (statuses .exit)) (now (blockers .entry)) (now (blockers .exit)) (now (pairs .entry)) (now (pairs .exit))) ⌝ }
+    requires { ⌜ (n ≤ maxPoints) × (maxPoints ≤ length (now present)) × (maxPoints ≤ length (now moods)) × (count ≤ length (now blockers)) ⌝ }
+    ensures { λ r. ⌜ Redraws size radius reach (now (cells .entry)) (now (confirmed .entry)) (now (full .entry))
+        (now (present .entry)) (now (moods .entry)) n count
+        (tablesOf (now (cells .entry)) (now (points .entry)) (now (statuses .entry)) (now (blockers .entry)) (now (pairs .entry)))
+        (tablesOf (now (cells .entry)) (now (points .exit)) (now (statuses .exit)) (now (blockers .exit)) (now (pairs .exit))) ⌝ }
 {
     draw_points(
         size,
         radius,
-        near,
+        reach,
         cells,
-        turned,
+        confirmed,
         full,
-        ks,
+        present,
         moods,
         n,
         count,
@@ -230,24 +252,24 @@ pub(crate) fn redraw(
         size,
         radius,
         cells,
-        turned,
+        confirmed,
         full,
-        &ks[..n],
+        &present[..n],
         &moods[..n],
         count,
         pairs,
     );
 }
 
-// Writes the tables of the n points afresh: no blocker and no pair of the `before` points that there were counts.
+// Writes the tables of the n points from nothing: no blocker and no pair of the `before` points that there were is kept.
 pub(crate) fn draw_afresh(
     size: f64,
     radius: f64,
-    near: u64,
+    reach: u64,
     cells: &[u64],
-    turned: &[u64],
+    confirmed: &[u64],
     full: &[u8],
-    ks: &[u64],
+    present: &[u64],
     moods: &[u64],
     n: usize,
     before: usize,
@@ -256,20 +278,21 @@ pub(crate) fn draw_afresh(
     blockers: &mut [u64],
     pairs: &mut [u64],
 )
-    requires { ⌜ (n ≤ 64) × (before ≤ 64) × (64 ≤ length (now ks)) × (64 ≤ length (now moods)) × (4096 ≤ length (now pairs)) ⌝ }
-    ensures { λ r. ⌜ ((ch : Batch) (S : Stood) (P Q : ℕ → ℕ → Option (Option ℕ)) → near ≡ reach (shiftOf size radius)
-        → Drawing (now (cells .entry)) ch S [] (now (turned .entry)) (now (full .entry)) (now (ks .entry)) (now (moods .entry)) (now (points .entry)) (now (statuses .entry)) (now (blockers .entry)) n 0
-        → Below 0 P → InRows before Q (now (pairs .entry))
-        → Redrawn (tests size radius) (now (cells .entry)) ch S [] P (now (points .entry)) (now (points .exit)) (now (statuses .entry)) (now (statuses .exit)) (now (blockers .entry)) (now (blockers .exit)) (now (pairs .entry)) (now (pairs .exit))) ⌝ }
+    requires { ⌜ (n ≤ maxPoints) × (before ≤ maxPoints) × (maxPoints ≤ length (now present)) × (maxPoints ≤ length (now moods))
+        × (pairPlaces ≤ length (now pairs)) ⌝ }
+    ensures { λ r. ⌜ Afresh size radius reach (now (cells .entry)) (now (confirmed .entry)) (now (full .entry))
+        (now (present .entry)) (now (moods .entry)) n before
+        (tablesOf (now (cells .entry)) (now (points .entry)) (now (statuses .entry)) (now (blockers .entry)) (now (pairs .entry)))
+        (tablesOf (now (cells .entry)) (now (points .exit)) (now (statuses .exit)) (now (blockers .exit)) (now (pairs .exit))) ⌝ }
 {
     draw_points(
         size,
         radius,
-        near,
+        reach,
         cells,
-        turned,
+        confirmed,
         full,
-        ks,
+        present,
         moods,
         n,
         0,
@@ -282,12 +305,12 @@ pub(crate) fn draw_afresh(
         size,
         radius,
         cells,
-        turned,
+        confirmed,
         full,
-        &ks[..n],
+        &present[..n],
         &moods[..n],
         rows,
-        &ks[..0],
+        &present[..0],
         pairs,
     );
 }

@@ -1,7 +1,7 @@
 // Points, pairs and blockers over a floor: opening a map, batches of cells, changes of the radius. A map is a small struct by
 // value and five lent tables.
 pub mod change;
-pub mod judge;
+mod judge;
 mod layer;
 pub mod open;
 mod plan;

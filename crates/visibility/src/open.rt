@@ -5,8 +5,12 @@ use held::map::Map;
 use held::map::Outcome;
 use limits::judge::bad_size;
 use limits::radius::bad_radius;
+use sizes::CELLS;
+use sizes::PAIRS;
+use sizes::POINTS;
 use table::bytes::clear_bytes;
 use table::copy::clear;
+ghost use Rattle.held.specs.Holds.{tablesOf};
 ghost use Rattle.visibility.specs.Open.{Opening};
 
 // Clears the tables up to their fixed need.
@@ -20,8 +24,8 @@ pub fn open(
     pairs: &mut [u64],
 ) -> Outcome
     ensures { λ o. ⌜ Opening size radius
-        (record { cells = now (cells .entry); points = now (points .entry); statuses = now (statuses .entry); blockers = now (blockers .entry); pairs = now (pairs .entry) })
-        (record { cells = now (cells .exit); points = now (points .exit); statuses = now (statuses .exit); blockers = now (blockers .exit); pairs = now (pairs .exit) }) o ⌝ }
+        (tablesOf (now (cells .entry)) (now (points .entry)) (now (statuses .entry)) (now (blockers .entry)) (now (pairs .entry)))
+        (tablesOf (now (cells .exit)) (now (points .exit)) (now (statuses .exit)) (now (blockers .exit)) (now (pairs .exit))) o ⌝ }
 {
     if short_tables(
         cells.len(),
@@ -38,11 +42,11 @@ pub fn open(
     if bad_radius(size, radius) {
         return refused(2);
     }
-    clear(&mut cells[..1024]);
-    clear(&mut points[..64]);
-    clear_bytes(&mut statuses[..64]);
-    clear(&mut blockers[..64]);
-    clear(&mut pairs[..4096]);
+    clear(&mut cells[..CELLS]);
+    clear(&mut points[..POINTS]);
+    clear_bytes(&mut statuses[..POINTS]);
+    clear(&mut blockers[..POINTS]);
+    clear(&mut pairs[..PAIRS]);
     Outcome {
         refusal: 0,
         map: Map {

@@ -1,4 +1,4 @@
-// A change of the radius: points and pairs are built afresh, over cells that stay.
+// A change of the radius: points and pairs are built anew, over the same cells.
 use crate::judge::short_tables;
 use crate::layer::draw_afresh;
 use crate::refusal::refused;
@@ -10,7 +10,10 @@ use limits::radius::bad_radius;
 use limits::radius::reach_of;
 use limits::radius::shift_of;
 use marks::points::mark_points;
+use sizes::CELLS;
+use sizes::POINTS;
 ghost use mathlib.Core.Path.{_≡_};
+ghost use Rattle.held.specs.Holds.{tablesOf};
 ghost use Rattle.visibility.specs.Radius.{Rebuilding, refuseRadius};
 
 // The refusals that the map handed in and the radius decide.
@@ -29,16 +32,16 @@ fn judge(short: bool, map: Map, radius: f64) -> u8
     if bad_radius(map.size, radius) {
         return 2;
     }
-    if 1024 < map.cells {
+    if CELLS < map.cells {
         return 6;
     }
-    if 64 < map.points {
+    if POINTS < map.points {
         return 7;
     }
     0
 }
 
-// Setting the same radius is a change too: blockers are told afresh.
+// Setting the same radius is a change too: blockers are worked out anew.
 pub fn change_radius(
     map: Map,
     cells: &[u64],
@@ -49,8 +52,8 @@ pub fn change_radius(
     radius: f64,
 ) -> Outcome
     ensures { λ o. ⌜ Rebuilding map radius
-        (record { cells = now (cells .entry); points = now (points .entry); statuses = now (statuses .entry); blockers = now (blockers .entry); pairs = now (pairs .entry) })
-        (record { cells = now (cells .entry); points = now (points .exit); statuses = now (statuses .exit); blockers = now (blockers .exit); pairs = now (pairs .exit) }) o ⌝ }
+        (tablesOf (now (cells .entry)) (now (points .entry)) (now (statuses .entry)) (now (blockers .entry)) (now (pairs .entry)))
+        (tablesOf (now (cells .entry)) (now (points .exit)) (now (statuses .exit)) (now (blockers .exit)) (now (pairs .exit))) o ⌝ }
 {
     let short = short_tables(
         cells.len(),
@@ -64,22 +67,22 @@ pub fn change_radius(
         return refused(number);
     }
     let n = map.cells;
-    let mut corners = [0u64; 1024];
-    let mut bits = [0u8; 1024];
-    let found = corner_cells(&cells[..n], &mut corners[..], &mut bits[..]);
-    let mut keys = [0u64; 64];
-    let mut moods = [0u64; 64];
+    let mut corners = [0u64; CELLS];
+    let mut altered = [0u8; CELLS];
+    let found = corner_cells(&cells[..n], &mut corners[..], &mut altered[..]);
+    let mut present = [0u64; POINTS];
+    let mut moods = [0u64; POINTS];
     let shift = shift_of(map.size, radius);
     let m = mark_points(
         shift,
         &points[..0],
         &statuses[..0],
         &corners[..found],
-        &bits[..found],
-        &mut keys[..],
+        &altered[..found],
+        &mut present[..],
         &mut moods[..],
     );
-    if 64 < m {
+    if POINTS < m {
         return refused(7);
     }
     draw_afresh(
@@ -88,8 +91,8 @@ pub fn change_radius(
         reach_of(shift),
         &cells[..n],
         &corners[..0],
-        &bits[..0],
-        &keys[..],
+        &altered[..0],
+        &present[..],
         &moods[..],
         m,
         map.points,

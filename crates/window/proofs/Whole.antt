@@ -10,10 +10,10 @@ use lib.ListN.{length, take, drop}
 use lib.Seq.{take-add}
 use Rattle.window.specs.declared.input.Window.{Window}
 use Rattle.window.specs.Refilled.{Filled, Refilled, Within, bytesOf}
-use Rattle.window.specs.Wanted.{wanted}
+use Rattle.model.specs.Limits.{needWindow}
 
 -- the window as it was
-pub unchanged : (w : Window) (b : List ℕ) → Within w b → (w .ended ≡ true) ⊎ (wanted ≤ w .end - w .from) → Refilled w w b b
+pub unchanged : (w : Window) (b : List ℕ) → Within w b → (w .ended ≡ true) ⊎ (needWindow ≤ w .end - w .from) → Refilled w w b b
 unchanged w b h e =
     record {
       inside = h;
@@ -37,8 +37,8 @@ refused w r b out e =
       outside = λ _. refl;
     })
 
--- the window's bytes were moved to the front, as in b₁, and what is behind them was filled
-pub filled : (w w′ : Window) (b b₁ b′ : List ℕ) → Within w b → w .ended ≡ false → w .end - w .from < wanted → length b′ ≡ length b
+-- the window's bytes were moved to the front, as in b₁, and the rest was filled
+pub filled : (w w′ : Window) (b b₁ b′ : List ℕ) → Within w b → w .ended ≡ false → w .end - w .from < needWindow → length b′ ≡ length b
     → take (w .end - w .from) b₁ ≡ take (w .end - w .from) (drop (w .from) b) → Filled (w .end - w .from) w′ b₁ b′ → Refilled w w′ b b′
 filled w w′ b b₁ b′ within on narrow long moved f =
     record {
@@ -59,6 +59,6 @@ filled w w′ b b₁ b′ within on narrow long moved f =
         let whole : take (w′ .end) b′ ≡ take n b′ ++ take (w′ .end - n) (drop n b′) = ap (λ (k : ℕ). take k b′) e ∙ take-add n (w′ .end - n) b′ in
         rw (f .front, sub-zero (w′ .end), whole, f .kept, moved)
 
-    either : (t : Bool) → w′ .ended ≡ t → wanted ≤ length b → (w′ .ended ≡ true) ⊎ (wanted ≤ w′ .end - w′ .from)
+    either : (t : Bool) → w′ .ended ≡ t → needWindow ≤ length b → (w′ .ended ≡ true) ⊎ (needWindow ≤ w′ .end - w′ .from)
     either true e big = inl e
-    either false e big = let full : w′ .end ≡ length b′ = f .full e in let l : wanted ≤ w′ .end - w′ .from = omega arith in inr l
+    either false e big = let full : w′ .end ≡ length b′ = f .full e in let l : needWindow ≤ w′ .end - w′ .from = omega arith in inr l

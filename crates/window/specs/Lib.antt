@@ -1,3 +1,2 @@
 -- What the contracts of crate `window` cite.
 pub mod Refilled
-pub mod Wanted

@@ -5,7 +5,7 @@ ghost use Prim.Native.Nat.{_-_, _≤_};
 ghost use lib.ListN.{drop, length, take};
 ghost use Rattle.window.specs.Refilled.{Filled, Refilled};
 
-// The bytes from one place up to another; whether the input ended behind them; whether it could not be read.
+// The bytes from one place up to another; whether the input ended after them; whether it could not be read.
 pub struct Window {
     pub from: usize,
     pub end: usize,
@@ -25,7 +25,7 @@ fn move_down(buffer: &mut [u8], from: usize, end: usize)
     }
 }
 
-// Reads behind the first `have` bytes until the buffer is full, the input ends or a read fails.
+// Reads more after the first `have` bytes, until the buffer is full, the input ends or a read fails.
 fn fill(fd: i32, buffer: &mut [u8], have: usize) -> Window
     requires { ⌜ have ≤ length (now buffer) ⌝ }
     ensures { λ r. ⌜ Filled have r (now (buffer .entry)) (now (buffer .exit)) ⌝ }
@@ -78,7 +78,7 @@ pub fn refill(fd: i32, buffer: &mut [u8], window: Window) -> Window
     if window.ended {
         return window;
     }
-    if 2307 <= end - from {
+    if sizes::WINDOW <= end - from {
         return window;
     }
     move_down(buffer, from, end);

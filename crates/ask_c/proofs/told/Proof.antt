@@ -6,12 +6,6 @@ use Rattle.question.specs.declared.ask.Place.{Place}
 use Rattle.ask_c.proofs.told.Statement.{statement}
 use Rattle.ask_c.proofs.told.Tie as tie
 
-enum-told : tie.Need-enum-told
-enum-told c = search needs
-
-enum-known-place : tie.Need-enum-known-place
-enum-known-place c = search needs
-
 returns : tie.Need-returns
 returns c = sym (ap (λ (p : Place). foundAs (c .before .before .args .answer .refusal) p) (c .enum-told .given .1))
 
@@ -19,4 +13,4 @@ returns-2 : tie.Need-returns-2
 returns-2 c = sym (ap (λ (p : Place). foundAs (c .before .before .before .args .answer .refusal) p) (c .before .place .given .1))
 
 pub told-spec : {M : Type 1} → statement M
-told-spec = tie.close (tie.spec enum-told enum-known-place returns returns-2)
+told-spec = tie.close (tie.spec (λ c. search needs) (λ c. search needs) returns returns-2)

@@ -25,20 +25,8 @@ known j = j .before .before .before .numbered .given .0 .0
 number : (j : tie.After-judge2) → let a = start j .args in j .judge2 .result ≡ refuseAsk (length (a .cells .now)) (a .size) (a .count) (asked (known j))
 number j = let a = start j .args in j .judge2 .ensures ∙ ap (refuseFloor (length (a .cells .now)) (a .size) (a .count)) (j .before .bad-question .ensures)
 
-question-of-requires : tie.Need-question-of-requires
-question-of-requires c κs = search needs
-
-enum-known-numbered : tie.Need-enum-known-numbered
-enum-known-numbered c = search needs
-
 enum-told : tie.Need-enum-told
 enum-told c = search needs
-
-judge-requires : tie.Need-judge-requires
-judge-requires c κs = search needs
-
-cast-result : tie.Need-cast-result
-cast-result c = search needs
 
 returns : tie.Need-returns
 returns c =
@@ -46,15 +34,6 @@ returns c =
     let m = u .before .before in
     let a = m .before .before .args in
     subst (λ (n : Numbered). Tells (a .cells .now) (a .size) (a .count) n (c .judge .result)) (sym (u .enum-told .given .1) ∙ m .question-of .ensures) (c .judge .ensures)
-
-bad-question-requires : tie.Need-bad-question-requires
-bad-question-requires c κs = search needs
-
-judge-requires-2 : tie.Need-judge-requires-2
-judge-requires-2 c κs = search needs
-
-cast-result-2 : tie.Need-cast-result-2
-cast-result-2 c = search needs
 
 returns-2 : tie.Need-returns-2
 returns-2 c =
@@ -71,9 +50,6 @@ slice-aggregate-search c =
     let f = ask-fits (length (a .cells .now)) (a .size) (a .count) (badQuestion (asked (known (e .before)))) (sym (number (e .before)) ∙ e .if1 .left) in
     sym (length-take-le (a .count) (a .cells .now) (omega arith))
 
-search-requires : tie.Need-search-requires
-search-requires c κs = search needs
-
 returns-3 : tie.Need-returns-3
 returns-3 c =
     let e = c .before .before in
@@ -87,16 +63,16 @@ pub runcedau-floor-ask-spec : {M : Type 1} → statement M
 runcedau-floor-ask-spec =
     tie.close
     (tie.spec
-    question-of-requires
-    enum-known-numbered
+    (λ c κs. search needs)
+    (λ c. search needs)
     enum-told
-    judge-requires
-    cast-result
+    (λ c κs. search needs)
+    (λ c. search needs)
     returns
-    bad-question-requires
-    judge-requires-2
-    cast-result-2
+    (λ c κs. search needs)
+    (λ c κs. search needs)
+    (λ c. search needs)
     returns-2
     slice-aggregate-search
-    search-requires
+    (λ c κs. search needs)
     returns-3)

@@ -21,24 +21,6 @@ long y = y .before .before .before .before .before .before .if1 .left
 returns : tie.Need-returns
 returns c = record { short = λ h. (refl, refl, refl); call = λ h. absurd (omega (arith, c .if1 .taken, h)) }
 
-change-cells-requires : tie.Need-change-cells-requires
-change-cells-requires c κs = search needs
-
-same-length : tie.Need-same-length
-same-length c = search needs
-
-same-length-2 : tie.Need-same-length-2
-same-length-2 c = search needs
-
-same-length-3 : tie.Need-same-length-3
-same-length-3 c = search needs
-
-same-length-4 : tie.Need-same-length-4
-same-length-4 c = search needs
-
-same-length-5 : tie.Need-same-length-5
-same-length-5 c = search needs
-
 returns-2 : tie.Need-returns-2
 returns-2 c =
     let y = call (c .before) in
@@ -48,34 +30,10 @@ returns-2 c =
       call = λ h. (y .change-cells .result, record { changing = y .change-cells .ensures; number = refl; counts = counts-stay (y .change-cells .result .refusal) (y .change-cells .result) (a .counts .now) (c .if2 .taken) });
     }
 
-slice-write-counts : tie.Need-slice-write-counts
-slice-write-counts c = search needs
-
 slice-write-counts-2 : tie.Need-slice-write-counts-2
 slice-write-counts-2 c =
     let y = call (c .before) in
     set-within (start y .args .counts .now) (y .change-cells .result .confirmed) (long y)
-
-slice-write-counts-3 : tie.Need-slice-write-counts-3
-slice-write-counts-3 c = search needs
-
-same-length-6 : tie.Need-same-length-6
-same-length-6 c = search needs
-
-same-length-7 : tie.Need-same-length-7
-same-length-7 c = search needs
-
-same-length-8 : tie.Need-same-length-8
-same-length-8 c = search needs
-
-same-length-9 : tie.Need-same-length-9
-same-length-9 c = search needs
-
-same-length-10 : tie.Need-same-length-10
-same-length-10 c = search needs
-
-same-length-11 : tie.Need-same-length-11
-same-length-11 c = search needs
 
 returns-3 : tie.Need-returns-3
 returns-3 c =
@@ -92,20 +50,20 @@ runcedau-floor-change-cells-spec =
     tie.close
     (tie.spec
     returns
-    change-cells-requires
-    same-length
-    same-length-2
-    same-length-3
-    same-length-4
-    same-length-5
+    (λ c κs. search needs)
+    (λ c. search needs)
+    (λ c. search needs)
+    (λ c. search needs)
+    (λ c. search needs)
+    (λ c. search needs)
     returns-2
-    slice-write-counts
+    (λ c. search needs)
     slice-write-counts-2
-    slice-write-counts-3
-    same-length-6
-    same-length-7
-    same-length-8
-    same-length-9
-    same-length-10
-    same-length-11
+    (λ c. search needs)
+    (λ c. search needs)
+    (λ c. search needs)
+    (λ c. search needs)
+    (λ c. search needs)
+    (λ c. search needs)
+    (λ c. search needs)
     returns-3)

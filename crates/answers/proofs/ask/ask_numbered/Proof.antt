@@ -37,24 +37,6 @@ known k = k .before .numbered .given .0 .0
 number-known : (k : tie.After-known-told) → let a = start (judged k) .args in judged k .refuse .result ≡ due (a .map) (a .cells .now) [] (badQuestion (asked (known k)))
 number-known k = number (judged k) (Numbered.Known (known k)) (k .before .numbered .given .1)
 
-lacks-requires : tie.Need-lacks-requires
-lacks-requires c κs = tt
-
-bad-numbered-requires : tie.Need-bad-numbered-requires
-bad-numbered-requires c κs = tt
-
-refuse-requires : tie.Need-refuse-requires
-refuse-requires c κs = tt
-
-enum-known-numbered : tie.Need-enum-known-numbered
-enum-known-numbered c = search needs
-
-enum-told : tie.Need-enum-told
-enum-told c = search needs
-
-refused-requires : tie.Need-refused-requires
-refused-requires c κs = tt
-
 returns : tie.Need-returns
 returns c =
     let u = c .before in
@@ -62,9 +44,6 @@ returns c =
     let a = start p .args in
     let e = u .enum-told .given .1 in
     subst (λ (n : Numbered). AsksNumbered (a .map) (a .cells .now) n (c .refused .result)) (sym e) (c .refused .ensures ∙ ap nowhere (number p Numbered.Unknown e))
-
-refused-requires-2 : tie.Need-refused-requires-2
-refused-requires-2 c κs = tt
 
 returns-2 : tie.Need-returns-2
 returns-2 c =
@@ -78,12 +57,6 @@ slice-aggregate-search c =
     let e = c .before in
     let a = start (judged (e .before)) .args in
     used (a .map) (a .cells .now) [] false (badQuestion (asked (known (e .before)))) (sym (number-known (e .before)) ∙ e .if1 .left)
-
-search-requires : tie.Need-search-requires
-search-requires c κs = tt
-
-place-of-requires : tie.Need-place-of-requires
-place-of-requires c κs = tt
 
 returns-3 : tie.Need-returns-3
 returns-3 c =
@@ -99,16 +72,16 @@ pub ask-numbered-spec : {M : Type 1} → statement M
 ask-numbered-spec =
     tie.close
     (tie.spec
-    lacks-requires
-    bad-numbered-requires
-    refuse-requires
-    enum-known-numbered
-    enum-told
-    refused-requires
+    (λ c κs. tt)
+    (λ c κs. tt)
+    (λ c κs. tt)
+    (λ c. search needs)
+    (λ c. search needs)
+    (λ c κs. tt)
     returns
-    refused-requires-2
+    (λ c κs. tt)
     returns-2
     slice-aggregate-search
-    search-requires
-    place-of-requires
+    (λ c κs. tt)
+    (λ c κs. tt)
     returns-3)

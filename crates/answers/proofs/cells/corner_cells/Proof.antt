@@ -1,11 +1,11 @@
 -- `cells::corner_cells`: the refusal that is due, or the corners among the used cells. Assumes nothing.
 use Prim.Native.Nat.{ℕ}
-use mathlib.Core.Path.{_≡_, refl, sym, ap, _∙_}
-use mathlib.Core.Bool.{Bool, false}
+use mathlib.Core.Path.{_≡_, refl, sym, _∙_}
+use mathlib.Core.Bool.{false}
 use mathlib.Core.List.{List, [], _∷_}
 use lib.ListN.{length}
 use Rattle.answers.proofs.ListingLaws.{listing-done, listing-refused}
-use Rattle.answers.proofs.PassedLaws.{lacks-short, long-enough, none-short}
+use Rattle.answers.proofs.PassedLaws.{long-enough, none-short}
 use Rattle.answers.specs.Asking.{refuseMap}
 use Rattle.model.specs.Limits.{maxCells, needCells}
 use Rattle.model.specs.Refusal.{short}
@@ -15,7 +15,7 @@ use Rattle.answers.proofs.cells.corner_cells.Statement.{statement}
 use Rattle.answers.proofs.cells.corner_cells.Tie as tie
 
 abbrev start : tie.After-refuse → tie.Start
-start p = p .before .before .before .before .before .before .before
+start p = p .before .before .before .before .before
 
 -- the outputs' lengths and needs
 abbrev last : tie.Start → List (ℕ × ℕ)
@@ -25,33 +25,10 @@ abbrev rest : tie.Start → List (ℕ × ℕ)
 rest s = (length (s .args .out .now), needCells) ∷ last s
 
 due : (p : tie.After-refuse) → let a = start p .args in p .refuse .result ≡ refuseMap (short ((length (a .cells .now), maxCells) ∷ rest (start p))) (a .map) false false
-due p =
-    let s = start p in
-    let a = s .args in
-    let k = p .before .before in
-    let l = k .before in
-    p .refuse .ensures
-    ∙ ap (λ (s : Bool). refuseMap s (a .map) false false) (lacks-short (length (a .cells .now)) maxCells (rest s) (k .lacks2 .result) (p .before .lacks3 .result) (p .before .lacks3 .ensures)
-    (lacks-short (length (a .out .now)) needCells (last s) (l .lacks .result) (k .lacks2 .result) (k .lacks2 .ensures)
-    (lacks-short (length (a .statuses .now)) needCells [] false (l .lacks .result) (l .lacks .ensures) none-short)))
+due p = rw (← p .before .lacks-three .ensures [] none-short) (p .refuse .ensures)
 
 passes : (e : tie.Else1) → let a = start (e .before) .args in refuseMap (short ((length (a .cells .now), maxCells) ∷ rest (start (e .before)))) (a .map) false false ≡ 0
 passes e = sym (due (e .before)) ∙ e .if1 .left
-
-lacks-requires : tie.Need-lacks-requires
-lacks-requires c κs = tt
-
-lacks-requires-2 : tie.Need-lacks-requires-2
-lacks-requires-2 c κs = tt
-
-lacks-requires-3 : tie.Need-lacks-requires-3
-lacks-requires-3 c κs = tt
-
-refuse-requires : tie.Need-refuse-requires
-refuse-requires c κs = tt
-
-refused-requires : tie.Need-refused-requires
-refused-requires c κs = tt
 
 returns : tie.Need-returns
 returns c =
@@ -64,15 +41,6 @@ slice-aggregate-corner-cells c =
     let e = c .before in
     let s = start (e .before) in
     used (s .args .map) (s .args .cells .now) (rest s) false false (passes e)
-
-corner-cells-requires : tie.Need-corner-cells-requires
-corner-cells-requires c κs = tt
-
-same-length : tie.Need-same-length
-same-length c = c .before .before .before .before .corner-cells .kept .1 .0
-
-same-length-2 : tie.Need-same-length-2
-same-length-2 c = c .before .before .before .before .corner-cells .kept .1 .1 .0
 
 returns-2 : tie.Need-returns-2
 returns-2 c =
@@ -89,14 +57,12 @@ pub corner-cells-spec : {M : Type 1} → statement M
 corner-cells-spec =
     tie.close
     (tie.spec
-    lacks-requires
-    lacks-requires-2
-    lacks-requires-3
-    refuse-requires
-    refused-requires
+    (λ c κs. tt)
+    (λ c κs. tt)
+    (λ c κs. tt)
     returns
     slice-aggregate-corner-cells
-    corner-cells-requires
-    same-length
-    same-length-2
+    (λ c κs. tt)
+    (λ c. c .before .before .before .before .corner-cells .kept .1 .0)
+    (λ c. c .before .before .before .before .corner-cells .kept .1 .1 .0)
     returns-2)

@@ -21,12 +21,6 @@ due p =
     let a = start p .args in
     p .refuse .ensures ∙ ap (λ (s : Bool). refuseMap s (a .map) false false) (lacks-short (length (a .cells .now)) maxCells [] false (p .before .lacks .result) (p .before .lacks .ensures) none-short)
 
-lacks-requires : tie.Need-lacks-requires
-lacks-requires c κs = tt
-
-refuse-requires : tie.Need-refuse-requires
-refuse-requires c κs = tt
-
 returns : tie.Need-returns
 returns c =
     let a = start (c .before) .args in
@@ -37,9 +31,6 @@ slice-aggregate-is-occupied c =
     let e = c .before in
     let a = start (e .before) .args in
     used (a .map) (a .cells .now) [] false false (sym (due (e .before)) ∙ e .if1 .left)
-
-is-occupied-requires : tie.Need-is-occupied-requires
-is-occupied-requires c κs = tt
 
 returns-2 : tie.Need-returns-2
 returns-2 c =
@@ -52,9 +43,9 @@ pub is-occupied-spec : {M : Type 1} → statement M
 is-occupied-spec =
     tie.close
     (tie.spec
-    lacks-requires
-    refuse-requires
+    (λ c κs. tt)
+    (λ c κs. tt)
     returns
     slice-aggregate-is-occupied
-    is-occupied-requires
+    (λ c κs. tt)
     returns-2)

@@ -32,18 +32,6 @@ due p =
 passes : (e : tie.Else1) → let a = start (e .before) .args in refuseMap (short ((length (a .cells .now), maxCells) ∷ rest (start (e .before)))) (a .map) false false ≡ 0
 passes e = sym (due (e .before)) ∙ e .if1 .left
 
-lacks-requires : tie.Need-lacks-requires
-lacks-requires c κs = tt
-
-lacks-requires-2 : tie.Need-lacks-requires-2
-lacks-requires-2 c κs = tt
-
-refuse-requires : tie.Need-refuse-requires
-refuse-requires c κs = tt
-
-refused-requires : tie.Need-refused-requires
-refused-requires c κs = tt
-
 returns : tie.Need-returns
 returns c =
     let p = c .before .before in
@@ -55,12 +43,6 @@ slice-aggregate-copy c =
     let e = c .before in
     let s = start (e .before) in
     used (s .args .map) (s .args .cells .now) (rest s) false false (passes e)
-
-copy-requires : tie.Need-copy-requires
-copy-requires c κs = tt
-
-same-length : tie.Need-same-length
-same-length c = c .before .before .copy .kept .1 .0
 
 returns-2 : tie.Need-returns-2
 returns-2 c =
@@ -76,12 +58,12 @@ pub occupied-cells-spec : {M : Type 1} → statement M
 occupied-cells-spec =
     tie.close
     (tie.spec
-    lacks-requires
-    lacks-requires-2
-    refuse-requires
-    refused-requires
+    (λ c κs. tt)
+    (λ c κs. tt)
+    (λ c κs. tt)
+    (λ c κs. tt)
     returns
     slice-aggregate-copy
-    copy-requires
-    same-length
+    (λ c κs. tt)
+    (λ c. c .before .before .copy .kept .1 .0)
     returns-2)

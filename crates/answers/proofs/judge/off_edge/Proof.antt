@@ -17,17 +17,11 @@ x-is c = c .beyond-edge .ensures ∙ ap (offMap (maxCoordinate + beyond)) (toZ-o
 y-is : (c : tie.After-beyond-edge2) → c .beyond-edge2 .result ≡ offMap (maxCoordinate + beyond) (c .before .before .before .before .before .args .cell .y)
 y-is c = c .beyond-edge2 .ensures ∙ ap (offMap (maxCoordinate + beyond)) (toZ-ofZ w64 (c .before .before .before .before .before .args .cell .y) (record { sfits = c .before .struct-told2 .given .1 .0 .1 }))
 
-beyond-edge-requires : tie.Need-beyond-edge-requires
-beyond-edge-requires c κs = search needs
-
 returns : tie.Need-returns
 returns c =
     let b = c .before in
     let a = b .before .before .args in
     either-first (offMap (maxCoordinate + beyond) (a .cell .x)) (offMap (maxCoordinate + beyond) (a .cell .y)) (sym (x-is b) ∙ c .if1 .taken)
-
-beyond-edge-requires-2 : tie.Need-beyond-edge-requires-2
-beyond-edge-requires-2 c κs = search needs
 
 returns-2 : tie.Need-returns-2
 returns-2 c =
@@ -37,4 +31,4 @@ returns-2 c =
     either-second (offMap (maxCoordinate + beyond) (a .cell .x)) (offMap (maxCoordinate + beyond) (a .cell .y)) (c .beyond-edge2 .result) (sym (x-is b) ∙ t .if1 .left) (y-is c)
 
 pub off-edge-spec : {M : Type 1} → statement M
-off-edge-spec = tie.close (tie.spec beyond-edge-requires returns beyond-edge-requires-2 returns-2)
+off-edge-spec = tie.close (tie.spec (λ c κs. search needs) returns (λ c κs. search needs) returns-2)

@@ -8,17 +8,11 @@ use Rattle.answers.proofs.judge.refuse.Tie as tie
 returns : tie.Need-returns
 returns c = let a = c .before .args in due-short (a .short) (a .map) (a .off) (a .bad) (c .if1 .taken)
 
-bad-size-requires : tie.Need-bad-size-requires
-bad-size-requires c κs = search needs
-
 returns-2 : tie.Need-returns-2
 returns-2 c =
     let s = c .before in
     let a = s .before .before .args in
     due-size (a .short) (a .map) (a .off) (a .bad) (s .before .if1 .left) (sym (s .bad-size .ensures) ∙ c .if2 .taken)
-
-bad-radius-requires : tie.Need-bad-radius-requires
-bad-radius-requires c κs = search needs
 
 returns-3 : tie.Need-returns-3
 returns-3 c =
@@ -83,4 +77,4 @@ returns-8 c =
     due-none (a .short) (a .map) (a .off) (a .bad) (s .before .if1 .left) (sym (s .bad-size .ensures) ∙ e .if2 .left) (sym (r .bad-radius .ensures) ∙ f .if3 .left) (g .if4 .left) (h .if5 .left) (i .if6 .left) (c .if7 .left)
 
 pub refuse-spec : {M : Type 1} → statement M
-refuse-spec = tie.close (tie.spec returns bad-size-requires returns-2 bad-radius-requires returns-3 returns-4 returns-5 returns-6 returns-7 returns-8)
+refuse-spec = tie.close (tie.spec returns (λ c κs. search needs) returns-2 (λ c κs. search needs) returns-3 returns-4 returns-5 returns-6 returns-7 returns-8)

@@ -31,12 +31,6 @@ list-row-requires c κs =
       rw (l .inv .blocks .same) (room (length (a .blocks .now)) (p .4)),
     )
 
-add-i : tie.Need-add-i Inv-loop μ-loop
-add-i c = search needs
-
-loop-less : tie.Need-loop-less Inv-loop μ-loop
-loop-less c = search needs
-
 loop-again : tie.Need-loop-again Inv-loop μ-loop
 loop-again c =
     let r = c .before .before .before .before .before .before in
@@ -45,15 +39,6 @@ loop-again c =
     let a = t .before .before .before .before .before .before .before .args in
     let k = r .list-row .kept .1 .1 .1 in
     all-row (a .points .now) (a .pairs .now) (a .lesser .now) (a .greater .now) (a .blocks .now) (l .lesser) (l .greater) (l .blocks) (l .n) (l .i) (l .inv) (t .loop-test .taken) (r .list-row .result) _ _ _ (k .0) (k .1 .0) (k .1 .1 .0) (r .list-row .ensures)
-
-same-length : tie.Need-same-length Inv-loop μ-loop
-same-length c = c .before .loop .inv .ends .lesser .same
-
-same-length-2 : tie.Need-same-length-2 Inv-loop μ-loop
-same-length-2 c = c .before .loop .inv .ends .greater .same
-
-same-length-3 : tie.Need-same-length-3 Inv-loop μ-loop
-same-length-3 c = c .before .loop .inv .blocks .same
 
 returns : tie.Need-returns Inv-loop μ-loop
 returns c =
@@ -69,10 +54,10 @@ list-all-spec =
     μ-loop
     loop-holds
     list-row-requires
-    add-i
-    loop-less
+    (λ c. search needs)
+    (λ c. search needs)
     loop-again
-    same-length
-    same-length-2
-    same-length-3
+    (λ c. c .before .loop .inv .ends .lesser .same)
+    (λ c. c .before .loop .inv .ends .greater .same)
+    (λ c. c .before .loop .inv .blocks .same)
     returns)

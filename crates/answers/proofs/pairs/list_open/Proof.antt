@@ -16,12 +16,6 @@ abbrev μ-loop : tie.MeasureT-loop
 loop-holds : tie.Need-loop-holds Inv-loop μ-loop
 loop-holds c = let s = c .before .before .before .before .before in let a = s .args in open-start (a .points .now) (a .blockers .now) (a .pairs .now) (a .lesser .now) (a .greater .now) (s .pre .0)
 
-mul-if1 : tie.Need-mul-if1 Inv-loop μ-loop
-mul-if1 c = search needs
-
-shared-slice-read-if1 : tie.Need-shared-slice-read-if1 Inv-loop μ-loop
-shared-slice-read-if1 c = search needs
-
 open-row-requires : tie.Need-open-row-requires Inv-loop μ-loop
 open-row-requires c κs =
     let w = c .before .before in
@@ -40,12 +34,6 @@ open-row-requires c κs =
       rw (l .inv .ends .greater .same) (room (length (a .greater .now)) (p .4)),
     )
 
-add-i : tie.Need-add-i Inv-loop μ-loop
-add-i c = search needs
-
-loop-less : tie.Need-loop-less Inv-loop μ-loop
-loop-less c = search needs
-
 loop-again : tie.Need-loop-again Inv-loop μ-loop
 loop-again c =
     let t = c .before .before in
@@ -58,12 +46,6 @@ loop-again c =
     rw (w .8, w .9, w .10) (open-more (a .points .now) (a .blockers .now) (a .pairs .now) (a .lesser .now) (a .greater .now) (l .lesser) (l .greater) (l .n) (l .i) (l .inv) (t .loop-test .taken) (r .result) _ _ (k .0) (k .1 .0) (r .ensures)))
     (λ w. rw (w .1, w .2, w .3) (open-skip (a .points .now) (a .blockers .now) (a .pairs .now) (a .lesser .now) (a .greater .now) (l .lesser) (l .greater) (l .n) (l .i) (l .inv) (t .loop-test .taken) (w .0 .left)))
     (c .if1 .came)
-
-same-length : tie.Need-same-length Inv-loop μ-loop
-same-length c = c .before .loop .inv .ends .lesser .same
-
-same-length-2 : tie.Need-same-length-2 Inv-loop μ-loop
-same-length-2 c = c .before .loop .inv .ends .greater .same
 
 returns : tie.Need-returns Inv-loop μ-loop
 returns c =
@@ -78,12 +60,12 @@ list-open-spec =
     Inv-loop
     μ-loop
     loop-holds
-    mul-if1
-    shared-slice-read-if1
+    (λ c. search needs)
+    (λ c. search needs)
     open-row-requires
-    add-i
-    loop-less
+    (λ c. search needs)
+    (λ c. search needs)
     loop-again
-    same-length
-    same-length-2
+    (λ c. c .before .loop .inv .ends .lesser .same)
+    (λ c. c .before .loop .inv .ends .greater .same)
     returns)

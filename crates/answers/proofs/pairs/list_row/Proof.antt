@@ -20,62 +20,17 @@ more t room h =
     let a = t .before .before .args in
     passing-room (length (a .points .now)) (a .i) (a .count) (l .n) (l .j) (t .loop-test .taken) (l .inv .at) room h
 
-add-j : tie.Need-add-j Inv-loop μ-loop
-add-j c = search needs
-
 loop-holds : tie.Need-loop-holds Inv-loop μ-loop
 loop-holds c = let s = c in let a = s .args in row-first (a .points .now) (a .pairs .now) (a .i) (a .count) (s .pre .0) (a .lesser .now) (a .greater .now) (a .blocks .now)
-
-mul-code : tie.Need-mul-code Inv-loop μ-loop
-mul-code c = search needs
-
-add-code : tie.Need-add-code Inv-loop μ-loop
-add-code c = search needs
-
-mul-code-2 : tie.Need-mul-code-2 Inv-loop μ-loop
-mul-code-2 c = search needs
-
-shared-slice-read-code : tie.Need-shared-slice-read-code Inv-loop μ-loop
-shared-slice-read-code c = search needs
-
-mul-lesser : tie.Need-mul-lesser Inv-loop μ-loop
-mul-lesser c = search needs
-
-shared-slice-read-lesser : tie.Need-shared-slice-read-lesser Inv-loop μ-loop
-shared-slice-read-lesser c = search needs
-
-mul-lesser-2 : tie.Need-mul-lesser-2 Inv-loop μ-loop
-mul-lesser-2 c = search needs
 
 slice-write-lesser : tie.Need-slice-write-lesser Inv-loop μ-loop
 slice-write-lesser c = let t = c .before .before .before in rw (t .before .loop .inv .ends .lesser .same) (more t (length (t .before .before .args .lesser .now)) (t .before .before .pre .3))
 
-mul-greater : tie.Need-mul-greater Inv-loop μ-loop
-mul-greater c = search needs
-
-shared-slice-read-greater : tie.Need-shared-slice-read-greater Inv-loop μ-loop
-shared-slice-read-greater c = search needs
-
-mul-greater-2 : tie.Need-mul-greater-2 Inv-loop μ-loop
-mul-greater-2 c = search needs
-
 slice-write-greater : tie.Need-slice-write-greater Inv-loop μ-loop
 slice-write-greater c = let t = c .before .before .before .before in rw (t .before .loop .inv .ends .greater .same) (more t (length (t .before .before .args .greater .now)) (t .before .before .pre .4))
 
-mul-blocks : tie.Need-mul-blocks Inv-loop μ-loop
-mul-blocks c = search needs
-
 slice-write-blocks : tie.Need-slice-write-blocks Inv-loop μ-loop
 slice-write-blocks c = let t = c .before .before .before .before .before in rw (t .before .loop .inv .blocks .same) (more t (length (t .before .before .args .blocks .now)) (t .before .before .pre .5))
-
-add-n : tie.Need-add-n Inv-loop μ-loop
-add-n c = search needs
-
-add-j-2 : tie.Need-add-j-2 Inv-loop μ-loop
-add-j-2 c = search needs
-
-loop-less : tie.Need-loop-less Inv-loop μ-loop
-loop-less c = search needs
 
 loop-again : tie.Need-loop-again Inv-loop μ-loop
 loop-again c =
@@ -93,15 +48,6 @@ loop-again c =
     (λ w. rw (w .1, w .2, w .3, w .4) (row-pass (a .points .now) (a .pairs .now) (a .i) (a .count) (s .pre .0) (a .lesser .now) (a .greater .now) (a .blocks .now) (l .lesser) (l .greater) (l .blocks) (l .n) (l .j) (l .inv) (t .loop-test .taken) (w .0 .left)))
     (c .if1 .came)
 
-same-length : tie.Need-same-length Inv-loop μ-loop
-same-length c = c .before .loop .inv .ends .lesser .same
-
-same-length-2 : tie.Need-same-length-2 Inv-loop μ-loop
-same-length-2 c = c .before .loop .inv .ends .greater .same
-
-same-length-3 : tie.Need-same-length-3 Inv-loop μ-loop
-same-length-3 c = c .before .loop .inv .blocks .same
-
 returns : tie.Need-returns Inv-loop μ-loop
 returns c =
     let l = c .before .loop in
@@ -115,27 +61,27 @@ list-row-spec =
     (tie.spec
     Inv-loop
     μ-loop
-    add-j
+    (λ c. search needs)
     loop-holds
-    mul-code
-    add-code
-    mul-code-2
-    shared-slice-read-code
-    mul-lesser
-    shared-slice-read-lesser
-    mul-lesser-2
+    (λ c. search needs)
+    (λ c. search needs)
+    (λ c. search needs)
+    (λ c. search needs)
+    (λ c. search needs)
+    (λ c. search needs)
+    (λ c. search needs)
     slice-write-lesser
-    mul-greater
-    shared-slice-read-greater
-    mul-greater-2
+    (λ c. search needs)
+    (λ c. search needs)
+    (λ c. search needs)
     slice-write-greater
-    mul-blocks
+    (λ c. search needs)
     slice-write-blocks
-    add-n
-    add-j-2
-    loop-less
+    (λ c. search needs)
+    (λ c. search needs)
+    (λ c. search needs)
     loop-again
-    same-length
-    same-length-2
-    same-length-3
+    (λ c. c .before .loop .inv .ends .lesser .same)
+    (λ c. c .before .loop .inv .ends .greater .same)
+    (λ c. c .before .loop .inv .blocks .same)
     returns)

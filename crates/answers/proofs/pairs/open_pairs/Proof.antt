@@ -8,7 +8,9 @@ use lib.ListN.{length}
 use Rattle.answers.proofs.ListingLaws.{listing-done, listing-refused}
 use Rattle.answers.proofs.PassedLaws.{accepted, none-short, lacks-short}
 use Rattle.answers.specs.Asking.{refuseMap}
+use Rattle.model.specs.Limits.{maxCells, maxPoints, needPairs}
 use Rattle.model.specs.Refusal.{short}
+use Rattle.held.specs.Pairs.{pairPlaces}
 use Rattle.held.proofs.RoomLaws.{Enough}
 use Rattle.answers.proofs.PairLaws.{open-written}
 use Rattle.answers.proofs.PointLaws.{used}
@@ -20,7 +22,7 @@ start p = p .before .before .before .before .before .before .before .before .bef
 
 -- what is lent, with its needs
 abbrev lent : tie.Start → List (ℕ × ℕ)
-lent s = let a = s .args in (length (a .points .now), 64) ∷ (length (a .blockers .now), 64) ∷ (length (a .pairs .now), 4096) ∷ (length (a .lesser .now), 2016) ∷ (length (a .greater .now), 2016) ∷ []
+lent s = let a = s .args in (length (a .points .now), maxPoints) ∷ (length (a .blockers .now), maxPoints) ∷ (length (a .pairs .now), pairPlaces) ∷ (length (a .lesser .now), needPairs) ∷ (length (a .greater .now), needPairs) ∷ []
 
 -- what was answered, and what it says of the lent tables where it is 0
 number : (p : tie.After-refuse) → p .refuse .result ≡ refuseMap (short (lent (start p))) (start p .args .map) false false
@@ -30,36 +32,15 @@ number p =
     let i = j .before in
     let h = i .before in
     let g = h .before in
-    let e1 = lacks-short _ 2016 _ false (g .lacks .result) (g .lacks .ensures) none-short in
-    let e2 = lacks-short _ 2016 _ (g .lacks .result) (h .lacks2 .result) (h .lacks2 .ensures) e1 in
-    let e3 = lacks-short _ 4096 _ (h .lacks2 .result) (i .lacks3 .result) (i .lacks3 .ensures) e2 in
-    let e4 = lacks-short _ 64 _ (i .lacks3 .result) (j .lacks4 .result) (j .lacks4 .ensures) e3 in
-    let e5 : k .lacks5 .result ≡ short (lent (start p)) = lacks-short _ 64 _ (j .lacks4 .result) (k .lacks5 .result) (k .lacks5 .ensures) e4 in
+    let e1 = lacks-short _ needPairs _ false (g .lacks .result) (g .lacks .ensures) none-short in
+    let e2 = lacks-short _ needPairs _ (g .lacks .result) (h .lacks2 .result) (h .lacks2 .ensures) e1 in
+    let e3 = lacks-short _ pairPlaces _ (h .lacks2 .result) (i .lacks3 .result) (i .lacks3 .ensures) e2 in
+    let e4 = lacks-short _ maxPoints _ (i .lacks3 .result) (j .lacks4 .result) (j .lacks4 .ensures) e3 in
+    let e5 : k .lacks5 .result ≡ short (lent (start p)) = lacks-short _ maxPoints _ (j .lacks4 .result) (k .lacks5 .result) (k .lacks5 .ensures) e4 in
     rw (← e5) (p .refuse .ensures)
 
-accept : (p : tie.Else1) → Enough (lent (start (p .before))) × (start (p .before) .args .map .cells ≤ 1024) × (start (p .before) .args .map .points ≤ 64)
+accept : (p : tie.Else1) → Enough (lent (start (p .before))) × (start (p .before) .args .map .cells ≤ maxCells) × (start (p .before) .args .map .points ≤ maxPoints)
 accept p = let s = start (p .before) in accepted (lent s) (s .args .map) false false (p .before .refuse .result) (number (p .before)) (p .if1 .left)
-
-lacks-requires : tie.Need-lacks-requires
-lacks-requires c κs = tt
-
-lacks-requires-2 : tie.Need-lacks-requires-2
-lacks-requires-2 c κs = tt
-
-lacks-requires-3 : tie.Need-lacks-requires-3
-lacks-requires-3 c κs = tt
-
-lacks-requires-4 : tie.Need-lacks-requires-4
-lacks-requires-4 c κs = tt
-
-lacks-requires-5 : tie.Need-lacks-requires-5
-lacks-requires-5 c κs = tt
-
-refuse-requires : tie.Need-refuse-requires
-refuse-requires c κs = tt
-
-refused-requires : tie.Need-refused-requires
-refused-requires c κs = tt
 
 returns : tie.Need-returns
 returns c =
@@ -87,12 +68,6 @@ list-open-requires c κs =
     let y = used (a .map .points) (a .blockers .now) (accept p .2) (r .1 .0) in
     (omega (arith, x, accept p .2), omega (arith, x, y), r .1 .1 .0, r .1 .1 .1 .0, r .1 .1 .1 .1 .0)
 
-same-length : tie.Need-same-length
-same-length c = c .before .before .before .before .list-open .kept .1 .1 .1 .0
-
-same-length-2 : tie.Need-same-length-2
-same-length-2 c = c .before .before .before .before .list-open .kept .1 .1 .1 .1 .0
-
 returns-2 : tie.Need-returns-2
 returns-2 c =
     let w = c .before .before .before .before in
@@ -105,17 +80,17 @@ pub open-pairs-spec : {M : Type 1} → statement M
 open-pairs-spec =
     tie.close
     (tie.spec
-    lacks-requires
-    lacks-requires-2
-    lacks-requires-3
-    lacks-requires-4
-    lacks-requires-5
-    refuse-requires
-    refused-requires
+    (λ c κs. tt)
+    (λ c κs. tt)
+    (λ c κs. tt)
+    (λ c κs. tt)
+    (λ c κs. tt)
+    (λ c κs. tt)
+    (λ c κs. tt)
     returns
     slice-aggregate-list-open
     slice-aggregate-list-open-2
     list-open-requires
-    same-length
-    same-length-2
+    (λ c. c .before .before .before .before .list-open .kept .1 .1 .1 .0)
+    (λ c. c .before .before .before .before .list-open .kept .1 .1 .1 .1 .0)
     returns-2)

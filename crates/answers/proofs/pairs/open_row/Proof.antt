@@ -21,62 +21,14 @@ more t room h =
     let a = t .before .before .args in
     passing-room (length (a .points .now)) (a .i) (a .count) (l .n) (l .j) (t .loop-test .taken) (l .inv .at) room h
 
-add-j : tie.Need-add-j Inv-loop μ-loop
-add-j c = search needs
-
 loop-holds : tie.Need-loop-holds Inv-loop μ-loop
 loop-holds c = let s = c in let a = s .args in open-first (a .points .now) (a .blockers .now) (a .pairs .now) (a .i) (a .count) (s .pre .0) (s .pre .4) (a .lesser .now) (a .greater .now)
-
-mul-if1 : tie.Need-mul-if1 Inv-loop μ-loop
-mul-if1 c = search needs
-
-add-if1 : tie.Need-add-if1 Inv-loop μ-loop
-add-if1 c = search needs
-
-mul-if1-2 : tie.Need-mul-if1-2 Inv-loop μ-loop
-mul-if1-2 c = search needs
-
-shared-slice-read-if1 : tie.Need-shared-slice-read-if1 Inv-loop μ-loop
-shared-slice-read-if1 c = search needs
-
-mul-if2 : tie.Need-mul-if2 Inv-loop μ-loop
-mul-if2 c = search needs
-
-shared-slice-read-if2 : tie.Need-shared-slice-read-if2 Inv-loop μ-loop
-shared-slice-read-if2 c = search needs
-
-mul-lesser : tie.Need-mul-lesser Inv-loop μ-loop
-mul-lesser c = search needs
-
-shared-slice-read-lesser : tie.Need-shared-slice-read-lesser Inv-loop μ-loop
-shared-slice-read-lesser c = search needs
-
-mul-lesser-2 : tie.Need-mul-lesser-2 Inv-loop μ-loop
-mul-lesser-2 c = search needs
 
 slice-write-lesser : tie.Need-slice-write-lesser Inv-loop μ-loop
 slice-write-lesser c = let t = c .before .before .before .before .before in rw (t .before .loop .inv .ends .lesser .same) (more t (length (t .before .before .args .lesser .now)) (t .before .before .pre .5))
 
-mul-greater : tie.Need-mul-greater Inv-loop μ-loop
-mul-greater c = search needs
-
-shared-slice-read-greater : tie.Need-shared-slice-read-greater Inv-loop μ-loop
-shared-slice-read-greater c = search needs
-
-mul-greater-2 : tie.Need-mul-greater-2 Inv-loop μ-loop
-mul-greater-2 c = search needs
-
 slice-write-greater : tie.Need-slice-write-greater Inv-loop μ-loop
 slice-write-greater c = let t = c .before .before .before .before .before .before in rw (t .before .loop .inv .ends .greater .same) (more t (length (t .before .before .args .greater .now)) (t .before .before .pre .6))
-
-add-n : tie.Need-add-n Inv-loop μ-loop
-add-n c = search needs
-
-add-j-2 : tie.Need-add-j-2 Inv-loop μ-loop
-add-j-2 c = search needs
-
-loop-less : tie.Need-loop-less Inv-loop μ-loop
-loop-less c = search needs
 
 loop-again : tie.Need-loop-again Inv-loop μ-loop
 loop-again c =
@@ -95,12 +47,6 @@ loop-again c =
     (w .0 .came)))
     (c .if1 .came)
 
-same-length : tie.Need-same-length Inv-loop μ-loop
-same-length c = c .before .loop .inv .ends .lesser .same
-
-same-length-2 : tie.Need-same-length-2 Inv-loop μ-loop
-same-length-2 c = c .before .loop .inv .ends .greater .same
-
 returns : tie.Need-returns Inv-loop μ-loop
 returns c =
     let l = c .before .loop in
@@ -114,26 +60,26 @@ open-row-spec =
     (tie.spec
     Inv-loop
     μ-loop
-    add-j
+    (λ c. search needs)
     loop-holds
-    mul-if1
-    add-if1
-    mul-if1-2
-    shared-slice-read-if1
-    mul-if2
-    shared-slice-read-if2
-    mul-lesser
-    shared-slice-read-lesser
-    mul-lesser-2
+    (λ c. search needs)
+    (λ c. search needs)
+    (λ c. search needs)
+    (λ c. search needs)
+    (λ c. search needs)
+    (λ c. search needs)
+    (λ c. search needs)
+    (λ c. search needs)
+    (λ c. search needs)
     slice-write-lesser
-    mul-greater
-    shared-slice-read-greater
-    mul-greater-2
+    (λ c. search needs)
+    (λ c. search needs)
+    (λ c. search needs)
     slice-write-greater
-    add-n
-    add-j-2
-    loop-less
+    (λ c. search needs)
+    (λ c. search needs)
+    (λ c. search needs)
     loop-again
-    same-length
-    same-length-2
+    (λ c. c .before .loop .inv .ends .lesser .same)
+    (λ c. c .before .loop .inv .ends .greater .same)
     returns)

@@ -5,8 +5,9 @@ use mathlib.Core.Bool.{false}
 use mathlib.Core.List.{List, [], _∷_}
 use lib.ListN.{length}
 use Rattle.answers.proofs.ListingLaws.{listing-done, listing-refused}
-use Rattle.answers.proofs.PassedLaws.{accepted, none-short, lacks-short}
+use Rattle.answers.proofs.PassedLaws.{accepted, none-short}
 use Rattle.answers.specs.Asking.{refuseMap}
+use Rattle.model.specs.Limits.{maxCells, maxPoints}
 use Rattle.model.specs.Refusal.{short}
 use Rattle.held.proofs.RoomLaws.{Enough}
 use Rattle.answers.proofs.PointLaws.{points-written, used}
@@ -14,30 +15,19 @@ use Rattle.answers.proofs.points.all_points.Statement.{statement}
 use Rattle.answers.proofs.points.all_points.Tie as tie
 
 abbrev start : tie.After-refuse → tie.Start
-start p = p .before .before .before .before .before .before .before .before .before .before .before .before .before
+start p = p .before .before .before .before .before .before .before .before .before
 
 -- what is lent, with its needs
 abbrev lent : tie.Start → List (ℕ × ℕ)
-lent s = let a = s .args in (length (a .points .now), 64) ∷ (length (a .statuses .now), 64) ∷ (length (a .blockers .now), 64) ∷ (length (a .out .now), 64) ∷ (length (a .bits .now), 64) ∷ (length (a .blocks .now), 64) ∷ []
+lent s = let a = s .args in (length (a .points .now), maxPoints) ∷ (length (a .statuses .now), maxPoints) ∷ (length (a .blockers .now), maxPoints) ∷ (length (a .out .now), maxPoints) ∷ (length (a .bits .now), maxPoints) ∷ (length (a .blocks .now), maxPoints) ∷ []
 
 -- what was answered, and what it says of the lent tables where it is 0
 number : (p : tie.After-refuse) → p .refuse .result ≡ refuseMap (short (lent (start p))) (start p .args .map) false false
 number p =
     let l = p .before in
-    let k = l .before in
-    let j = k .before in
-    let i = j .before in
-    let h = i .before in
-    let g = h .before in
-    let e1 = lacks-short _ 64 _ false (g .lacks .result) (g .lacks .ensures) none-short in
-    let e2 = lacks-short _ 64 _ (g .lacks .result) (h .lacks2 .result) (h .lacks2 .ensures) e1 in
-    let e3 = lacks-short _ 64 _ (h .lacks2 .result) (i .lacks3 .result) (i .lacks3 .ensures) e2 in
-    let e4 = lacks-short _ 64 _ (i .lacks3 .result) (j .lacks4 .result) (j .lacks4 .ensures) e3 in
-    let e5 = lacks-short _ 64 _ (j .lacks4 .result) (k .lacks5 .result) (k .lacks5 .ensures) e4 in
-    let e6 : l .lacks6 .result ≡ short (lent (start p)) = lacks-short _ 64 _ (k .lacks5 .result) (l .lacks6 .result) (l .lacks6 .ensures) e5 in
-    rw (← e6) (p .refuse .ensures)
+    rw (← l .lacks-three2 .ensures _ (l .before .lacks-three .ensures [] none-short)) (p .refuse .ensures)
 
-accept : (p : tie.Else1) → Enough (lent (start (p .before))) × (start (p .before) .args .map .cells ≤ 1024) × (start (p .before) .args .map .points ≤ 64)
+accept : (p : tie.Else1) → Enough (lent (start (p .before))) × (start (p .before) .args .map .cells ≤ maxCells) × (start (p .before) .args .map .points ≤ maxPoints)
 accept p = let s = start (p .before) in accepted (lent s) (s .args .map) false false (p .before .refuse .result) (number (p .before)) (p .if1 .left)
 
 -- where nothing is refused, from the second copy; and that, from the third
@@ -46,30 +36,6 @@ second p = p .before .before .before .before .before
 
 abbrev third : tie.After-slice-known5 → tie.After-slice-known4
 third p = p .before .before .before .before .before
-
-lacks-requires : tie.Need-lacks-requires
-lacks-requires c κs = tt
-
-lacks-requires-2 : tie.Need-lacks-requires-2
-lacks-requires-2 c κs = tt
-
-lacks-requires-3 : tie.Need-lacks-requires-3
-lacks-requires-3 c κs = tt
-
-lacks-requires-4 : tie.Need-lacks-requires-4
-lacks-requires-4 c κs = tt
-
-lacks-requires-5 : tie.Need-lacks-requires-5
-lacks-requires-5 c κs = tt
-
-lacks-requires-6 : tie.Need-lacks-requires-6
-lacks-requires-6 c κs = tt
-
-refuse-requires : tie.Need-refuse-requires
-refuse-requires c κs = tt
-
-refused-requires : tie.Need-refused-requires
-refused-requires c κs = tt
 
 returns : tie.Need-returns
 returns c =
@@ -82,35 +48,17 @@ slice-aggregate-copy c =
     let a = start (p .before) .args in
     sym (used (a .map .points) (a .points .now) (accept p .2) (accept p .0 .0))
 
-copy-requires : tie.Need-copy-requires
-copy-requires c κs = tt
-
 slice-aggregate-copy-bytes : tie.Need-slice-aggregate-copy-bytes
 slice-aggregate-copy-bytes c =
     let p = second (c .before) in
     let a = start (p .before) .args in
     sym (used (a .map .points) (a .statuses .now) (accept p .2) (accept p .0 .1 .0))
 
-copy-bytes-requires : tie.Need-copy-bytes-requires
-copy-bytes-requires c κs = tt
-
 slice-aggregate-copy-2 : tie.Need-slice-aggregate-copy-2
 slice-aggregate-copy-2 c =
     let p = second (third (c .before)) in
     let a = start (p .before) .args in
     sym (used (a .map .points) (a .blockers .now) (accept p .2) (accept p .0 .1 .1 .0))
-
-copy-requires-2 : tie.Need-copy-requires-2
-copy-requires-2 c κs = tt
-
-same-length : tie.Need-same-length
-same-length c = third (c .before .before .before .before .before) .before .before .copy .kept .1 .0
-
-same-length-2 : tie.Need-same-length-2
-same-length-2 c = c .before .before .before .before .before .before .before .copy-bytes .kept .1 .0
-
-same-length-3 : tie.Need-same-length-3
-same-length-3 c = c .before .before .copy2 .kept .1 .0
 
 returns-2 : tie.Need-returns-2
 returns-2 c =
@@ -127,22 +75,18 @@ pub all-points-spec : {M : Type 1} → statement M
 all-points-spec =
     tie.close
     (tie.spec
-    lacks-requires
-    lacks-requires-2
-    lacks-requires-3
-    lacks-requires-4
-    lacks-requires-5
-    lacks-requires-6
-    refuse-requires
-    refused-requires
+    (λ c κs. tt)
+    (λ c κs. tt)
+    (λ c κs. tt)
+    (λ c κs. tt)
     returns
     slice-aggregate-copy
-    copy-requires
+    (λ c κs. tt)
     slice-aggregate-copy-bytes
-    copy-bytes-requires
+    (λ c κs. tt)
     slice-aggregate-copy-2
-    copy-requires-2
-    same-length
-    same-length-2
-    same-length-3
+    (λ c κs. tt)
+    (λ c. third (c .before .before .before .before .before) .before .before .copy .kept .1 .0)
+    (λ c. c .before .before .before .before .before .before .before .copy-bytes .kept .1 .0)
+    (λ c. c .before .before .copy2 .kept .1 .0)
     returns-2)

@@ -6,8 +6,9 @@ use mathlib.Core.Bool.{false}
 use mathlib.Core.List.{List, [], _∷_}
 use lib.ListN.{length}
 use Rattle.answers.proofs.ListingLaws.{listing-done, listing-refused}
-use Rattle.answers.proofs.PassedLaws.{accepted, none-short, lacks-short}
+use Rattle.answers.proofs.PassedLaws.{accepted, none-short}
 use Rattle.answers.specs.Asking.{refuseMap}
+use Rattle.model.specs.Limits.{maxCells, maxPoints}
 use Rattle.model.specs.Refusal.{short}
 use Rattle.held.proofs.RoomLaws.{Enough}
 use Rattle.answers.proofs.PointLaws.{free-written, used}
@@ -15,40 +16,18 @@ use Rattle.answers.proofs.points.free_points.Statement.{statement}
 use Rattle.answers.proofs.points.free_points.Tie as tie
 
 abbrev start : tie.After-refuse → tie.Start
-start p = p .before .before .before .before .before .before .before
+start p = p .before .before .before .before .before
 
 -- what is lent, with its needs
 abbrev lent : tie.Start → List (ℕ × ℕ)
-lent s = let a = s .args in (length (a .points .now), 64) ∷ (length (a .blockers .now), 64) ∷ (length (a .out .now), 64) ∷ []
+lent s = let a = s .args in (length (a .points .now), maxPoints) ∷ (length (a .blockers .now), maxPoints) ∷ (length (a .out .now), maxPoints) ∷ []
 
 -- what was answered, and what it says of the lent tables where it is 0
 number : (p : tie.After-refuse) → p .refuse .result ≡ refuseMap (short (lent (start p))) (start p .args .map) false false
-number p =
-    let i = p .before in
-    let h = i .before in
-    let g = h .before in
-    let e1 = lacks-short _ 64 _ false (g .lacks .result) (g .lacks .ensures) none-short in
-    let e2 = lacks-short _ 64 _ (g .lacks .result) (h .lacks2 .result) (h .lacks2 .ensures) e1 in
-    let e3 : i .lacks3 .result ≡ short (lent (start p)) = lacks-short _ 64 _ (h .lacks2 .result) (i .lacks3 .result) (i .lacks3 .ensures) e2 in
-    rw (← e3) (p .refuse .ensures)
+number p = rw (← p .before .lacks-three .ensures [] none-short) (p .refuse .ensures)
 
-accept : (p : tie.Else1) → Enough (lent (start (p .before))) × (start (p .before) .args .map .cells ≤ 1024) × (start (p .before) .args .map .points ≤ 64)
+accept : (p : tie.Else1) → Enough (lent (start (p .before))) × (start (p .before) .args .map .cells ≤ maxCells) × (start (p .before) .args .map .points ≤ maxPoints)
 accept p = let s = start (p .before) in accepted (lent s) (s .args .map) false false (p .before .refuse .result) (number (p .before)) (p .if1 .left)
-
-lacks-requires : tie.Need-lacks-requires
-lacks-requires c κs = tt
-
-lacks-requires-2 : tie.Need-lacks-requires-2
-lacks-requires-2 c κs = tt
-
-lacks-requires-3 : tie.Need-lacks-requires-3
-lacks-requires-3 c κs = tt
-
-refuse-requires : tie.Need-refuse-requires
-refuse-requires c κs = tt
-
-refused-requires : tie.Need-refused-requires
-refused-requires c κs = tt
 
 returns : tie.Need-returns
 returns c =
@@ -76,9 +55,6 @@ write-free-requires c κs =
     let y = used (a .map .points) (a .blockers .now) (accept p .2) (r .1 .0) in
     (omega (arith, x, y), omega (arith, x, accept p .2, r .1 .1 .0))
 
-same-length : tie.Need-same-length
-same-length c = c .before .before .write-free .kept .1 .1 .0
-
 returns-2 : tie.Need-returns-2
 returns-2 c =
     let w = c .before .before in
@@ -91,14 +67,12 @@ pub free-points-spec : {M : Type 1} → statement M
 free-points-spec =
     tie.close
     (tie.spec
-    lacks-requires
-    lacks-requires-2
-    lacks-requires-3
-    refuse-requires
-    refused-requires
+    (λ c κs. tt)
+    (λ c κs. tt)
+    (λ c κs. tt)
     returns
     slice-aggregate-write-free
     slice-aggregate-write-free-2
     write-free-requires
-    same-length
+    (λ c. c .before .before .write-free .kept .1 .1 .0)
     returns-2)

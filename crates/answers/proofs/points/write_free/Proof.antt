@@ -14,54 +14,23 @@ abbrev μ-loop : tie.MeasureT-loop
 μ-loop points blockers out₀ n₀ i₀ out n i = length points - i
 
 loop-holds : tie.Need-loop-holds Inv-loop μ-loop
-loop-holds c = let a = c .args in free-none (a .points .now) (a .blockers .now) (a .out .now)
-
-mul-if1 : tie.Need-mul-if1 Inv-loop μ-loop
-mul-if1 c = search needs
-
-shared-slice-read-if1 : tie.Need-shared-slice-read-if1 Inv-loop μ-loop
-shared-slice-read-if1 c = search needs
-
-mul-out : tie.Need-mul-out Inv-loop μ-loop
-mul-out c = search needs
-
-shared-slice-read-out : tie.Need-shared-slice-read-out Inv-loop μ-loop
-shared-slice-read-out c = search needs
-
-mul-out-2 : tie.Need-mul-out-2 Inv-loop μ-loop
-mul-out-2 c = search needs
-
-slice-write-out : tie.Need-slice-write-out Inv-loop μ-loop
-slice-write-out c = search needs
-
-add-n : tie.Need-add-n Inv-loop μ-loop
-add-n c = search needs
-
-add-i : tie.Need-add-i Inv-loop μ-loop
-add-i c = search needs
-
-loop-less : tie.Need-loop-less Inv-loop μ-loop
-loop-less c = search needs
+loop-holds c = let a = c .args in free-none (a .points .now) (a .blockers .now) (a .out .now) (c .pre .1)
 
 loop-again : tie.Need-loop-again Inv-loop μ-loop
 loop-again c =
     let t = c .before .before in
     let l = t .before .loop in
-    let s = t .before .before in
-    let a = s .args in
+    let a = t .before .before .args in
     ⊎-elim
-    (λ w. rw (w .2, w .3) (free-put (a .points .now) (a .blockers .now) (a .out .now) (l .out) (l .n) (l .i) (t .loop-test .taken) (l .inv) (s .pre .1) (w .0 .taken)))
-    (λ w. rw (w .1, w .2) (free-pass (a .points .now) (a .blockers .now) (a .out .now) (l .out) (l .n) (l .i) (t .loop-test .taken) (l .inv) (w .0 .left)))
+    (λ w. rw (w .2, w .3) (free-put (a .points .now) (a .blockers .now) (a .out .now) (l .out) (l .n) (l .i) (l .inv) (t .loop-test .taken) (w .0 .taken)))
+    (λ w. rw (w .1, w .2) (free-pass (a .points .now) (a .blockers .now) (a .out .now) (l .out) (l .n) (l .i) (l .inv) (t .loop-test .taken) (w .0 .left)))
     (c .if1 .came)
-
-same-length : tie.Need-same-length Inv-loop μ-loop
-same-length c = c .before .loop .inv .grown .same
 
 returns : tie.Need-returns Inv-loop μ-loop
 returns c =
     let l = c .before .loop in
     let a = c .before .before .args in
-    free-all (a .points .now) (a .blockers .now) (a .out .now) (l .out) (l .n) (l .i) (c .loop-test .left) (l .inv)
+    free-all (a .points .now) (a .blockers .now) (a .out .now) (l .out) (l .n) (l .i) (l .inv) (c .loop-test .left)
 
 pub write-free-spec : {M : Type 1} → statement M
 write-free-spec =
@@ -70,15 +39,15 @@ write-free-spec =
     Inv-loop
     μ-loop
     loop-holds
-    mul-if1
-    shared-slice-read-if1
-    mul-out
-    shared-slice-read-out
-    mul-out-2
-    slice-write-out
-    add-n
-    add-i
-    loop-less
+    (λ c. search needs)
+    (λ c. search needs)
+    (λ c. search needs)
+    (λ c. search needs)
+    (λ c. search needs)
+    (λ c. search needs)
+    (λ c. search needs)
+    (λ c. search needs)
+    (λ c. search needs)
     loop-again
-    same-length
+    (λ c. c .before .loop .inv .grown .same)
     returns)

@@ -9,16 +9,7 @@ use Rattle.batches.proofs.batch.commit.Tie as tie
 returns : tie.Need-returns
 returns c =
     let a = c .before .before .before .before .args in
-    λ b p q o T h. absurd (omega (arith, c .if1 .taken, listed-lengths (a .turned .now) (a .full .now) b p q))
-
-take-out-requires : tie.Need-take-out-requires
-take-out-requires c κs = search needs
-
-put-in-requires : tie.Need-put-in-requires
-put-in-requires c κs = search needs
-
-same-length : tie.Need-same-length
-same-length c = search needs
+    λ b p q o T h. absurd (omega (arith, c .if1 .taken, listed-lengths (a .confirmed .now) (a .full .now) b p q))
 
 returns-2 : tie.Need-returns-2
 returns-2 c =
@@ -26,7 +17,7 @@ returns-2 c =
     let p = c .before .before .before .before .before .before in
     let o = p .take-out in
     let a = p .before .before .before .before .before .before .args in
-    commit-is (a .turned .now) (a .full .now) (a .cells .now) (a .n) (o .last .0) (o .result) (i .last .0) (i .result) (o .ensures) (i .ensures) (o .kept .0) (i .kept .0 ∙ o .kept .0)
+    commit-is (a .confirmed .now) (a .full .now) (a .cells .now) (a .n) (o .last .0) (o .result) (i .last .0) (i .result) (o .ensures) (i .ensures) (o .kept .0) (i .kept .0 ∙ o .kept .0)
 
 pub commit-spec : {M : Type 1} → statement M
-commit-spec = tie.close (tie.spec returns take-out-requires put-in-requires same-length returns-2)
+commit-spec = tie.close (tie.spec returns (λ c κs. search needs) (λ c κs. search needs) (λ c. search needs) returns-2)

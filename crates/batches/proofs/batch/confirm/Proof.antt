@@ -24,16 +24,16 @@ room : (c : tie.Else2 Inv-loop μ-loop) → let a = c .before .before .before .b
 room c = let a = c .before .before .before .before .before .args in ltb-false (length (a .full .now)) (length (a .batch .now) / 3) (c .if2 .left)
 
 -- what was looked up of the entry at i
-looked : (c : tie.After-turns Inv-loop μ-loop) →
+looked : (c : tie.After-alters Inv-loop μ-loop) →
     let k = c .before .before in
     let f = c .before in
     let l = c .before .before .before .before in
     let a = l .before .before .before .before .before .before .args in
-    Looked (a .cells .now) (a .batch .now) (l .loop .i) (k .key-at .result) (f .full-at .result) (c .turns .result)
+    Looked (a .cells .now) (a .batch .now) (l .loop .i) (k .key-at .result) (f .full-at .result) (c .alters .result)
 looked c =
     let k = c .before .before in
     let f = c .before in
-    record { there = k .before .loop-test .taken; isKey = k .key-at .ensures; says = f .full-at .ensures; turns = c .turns .ensures }
+    record { there = k .before .loop-test .taken; isKey = k .key-at .ensures; full = f .full-at .ensures; alters = c .alters .ensures }
 
 returns : tie.Need-returns Inv-loop μ-loop
 returns c =
@@ -48,42 +48,12 @@ returns c =
 loop-holds : tie.Need-loop-holds Inv-loop μ-loop
 loop-holds c = let a = c .before .before .before .before .before .args in listing-start (a .cells .now) (a .batch .now) (a .out .now) (a .full .now)
 
-add-loop : tie.Need-add-loop Inv-loop μ-loop
-add-loop c = search needs
-
-key-at-requires : tie.Need-key-at-requires Inv-loop μ-loop
-key-at-requires c κs = search needs
-
-full-at-requires : tie.Need-full-at-requires Inv-loop μ-loop
-full-at-requires c κs = search needs
-
-turns-requires : tie.Need-turns-requires Inv-loop μ-loop
-turns-requires c κs = search needs
-
-mul-out : tie.Need-mul-out Inv-loop μ-loop
-mul-out c = search needs
-
-slice-write-out : tie.Need-slice-write-out Inv-loop μ-loop
-slice-write-out c = search needs
-
-flag-requires : tie.Need-flag-requires Inv-loop μ-loop
-flag-requires c κs = search needs
-
 slice-write-full : tie.Need-slice-write-full Inv-loop μ-loop
 slice-write-full c =
     let l = c .before .before .before .before .before .before in
     let a = l .before .before .before .before .before .before .args in
     let e : length (l .loop .full) ≡ length (a .full .now) = l .loop .inv .numbers in
     omega (arith, room (l .before))
-
-add-n : tie.Need-add-n Inv-loop μ-loop
-add-n c = search needs
-
-add-i : tie.Need-add-i Inv-loop μ-loop
-add-i c = search needs
-
-loop-less : tie.Need-loop-less Inv-loop μ-loop
-loop-less c = search needs
 
 loop-again : tie.Need-loop-again Inv-loop μ-loop
 loop-again c =
@@ -121,17 +91,17 @@ confirm-spec =
     μ-loop
     returns
     loop-holds
-    add-loop
-    key-at-requires
-    full-at-requires
-    turns-requires
-    mul-out
-    slice-write-out
-    flag-requires
+    (λ c. search needs)
+    (λ c κs. search needs)
+    (λ c κs. search needs)
+    (λ c κs. search needs)
+    (λ c. search needs)
+    (λ c. search needs)
+    (λ c κs. search needs)
     slice-write-full
-    add-n
-    add-i
-    loop-less
+    (λ c. search needs)
+    (λ c. search needs)
+    (λ c. search needs)
     loop-again
     same-length
     same-length-2

@@ -17,43 +17,19 @@ abbrev μ-loop : tie.MeasureT-loop
 μ-loop cells batch more₀ less₀ i₀ more less i = length batch - i
 
 -- what was looked up of the entry at i
-looked : (c : tie.After-turns Inv-loop μ-loop) →
+looked : (c : tie.After-alters Inv-loop μ-loop) →
     let k = c .before in
     let f = c .before .before in
     let l = c .before .before .before .before in
     let a = l .before .before .args in
-    Looked (a .cells .now) (a .batch .now) (l .loop .i) (k .key-at .result) (f .full-at .result) (c .turns .result)
+    Looked (a .cells .now) (a .batch .now) (l .loop .i) (k .key-at .result) (f .full-at .result) (c .alters .result)
 looked c =
     let k = c .before in
     let f = c .before .before in
-    record { there = f .before .loop-test .taken; isKey = k .key-at .ensures; says = f .full-at .ensures; turns = c .turns .ensures }
+    record { there = f .before .loop-test .taken; isKey = k .key-at .ensures; full = f .full-at .ensures; alters = c .alters .ensures }
 
 loop-holds : tie.Need-loop-holds Inv-loop μ-loop
 loop-holds c = let a = c .before .args in counted-start (a .cells .now) (a .batch .now)
-
-add-loop : tie.Need-add-loop Inv-loop μ-loop
-add-loop c = search needs
-
-full-at-requires : tie.Need-full-at-requires Inv-loop μ-loop
-full-at-requires c κs = search needs
-
-key-at-requires : tie.Need-key-at-requires Inv-loop μ-loop
-key-at-requires c κs = search needs
-
-turns-requires : tie.Need-turns-requires Inv-loop μ-loop
-turns-requires c κs = search needs
-
-add-more : tie.Need-add-more Inv-loop μ-loop
-add-more c = search needs
-
-add-less : tie.Need-add-less Inv-loop μ-loop
-add-less c = search needs
-
-add-i : tie.Need-add-i Inv-loop μ-loop
-add-i c = search needs
-
-loop-less : tie.Need-loop-less Inv-loop μ-loop
-loop-less c = search needs
 
 loop-again : tie.Need-loop-again Inv-loop μ-loop
 loop-again c =
@@ -85,14 +61,14 @@ count-after-spec =
     Inv-loop
     μ-loop
     loop-holds
-    add-loop
-    full-at-requires
-    key-at-requires
-    turns-requires
-    add-more
-    add-less
-    add-i
-    loop-less
+    (λ c. search needs)
+    (λ c κs. search needs)
+    (λ c κs. search needs)
+    (λ c κs. search needs)
+    (λ c. search needs)
+    (λ c. search needs)
+    (λ c. search needs)
+    (λ c. search needs)
     loop-again
     returns
     returns-2)

@@ -6,17 +6,8 @@ use borrow.Author.Needs.{needs}
 use Rattle.batches.proofs.batch.full_at.Statement.{statement}
 use Rattle.batches.proofs.batch.full_at.Tie as tie
 
-add-result : tie.Need-add-result
-add-result c = search needs
-
-mul-result : tie.Need-mul-result
-mul-result c = search needs
-
-shared-slice-copy-out-result : tie.Need-shared-slice-copy-out-result
-shared-slice-copy-out-result c = search needs
-
 returns : tie.Need-returns
 returns c = let s = c .before .args in not-zero (item (s .batch .now) (s .i + 2)) (c .result .given)
 
 pub full-at-spec : {M : Type 1} → statement M
-full-at-spec = tie.close (tie.spec add-result mul-result shared-slice-copy-out-result returns)
+full-at-spec = tie.close (tie.spec (λ c. search needs) (λ c. search needs) (λ c. search needs) returns)

@@ -4,46 +4,28 @@ use mathlib.Core.Logic.{⊎-elim}
 use mathlib.Core.Bool.{false}
 use lib.ListN.{length, getD}
 use borrow.Author.Needs.{needs}
-use Rattle.batches.proofs.WriteLaws.{Writing, remove-writes, says-free, says-full, writing-start, writing-same, writing-more, writing-end}
+use Rattle.batches.proofs.WriteLaws.{Writing, remove-writes, means-free, means-full, writing-start, writing-same, writing-more, writing-end}
 use Rattle.batches.proofs.batch.take_out.Statement.{statement}
 use Rattle.batches.proofs.batch.take_out.Tie as tie
 
 abbrev Inv-loop : tie.InvT-loop
-Inv-loop cells₀ n turned full used₀ i₀ cells used i = Writing false turned full cells₀ n i cells used
+Inv-loop cells₀ n confirmed full used₀ i₀ cells used i = Writing false confirmed full cells₀ n i cells used
 
 abbrev μ-loop : tie.MeasureT-loop
-μ-loop cells₀ n turned full used₀ i₀ cells used i = length turned - i
+μ-loop cells₀ n confirmed full used₀ i₀ cells used i = length confirmed - i
 
 loop-holds : tie.Need-loop-holds Inv-loop μ-loop
-loop-holds c = let a = c .before .before .before .args in writing-start false (a .turned .now) (a .full .now) (a .cells .now) (a .n)
-
-shared-slice-read-if1 : tie.Need-shared-slice-read-if1 Inv-loop μ-loop
-shared-slice-read-if1 c = search needs
-
-mul-remove : tie.Need-mul-remove Inv-loop μ-loop
-mul-remove c = search needs
-
-shared-slice-read-remove : tie.Need-shared-slice-read-remove Inv-loop μ-loop
-shared-slice-read-remove c = search needs
-
-remove-requires : tie.Need-remove-requires Inv-loop μ-loop
-remove-requires c κs = search needs
-
-add-i : tie.Need-add-i Inv-loop μ-loop
-add-i c = search needs
-
-loop-less : tie.Need-loop-less Inv-loop μ-loop
-loop-less c = search needs
+loop-holds c = let a = c .before .before .before .args in writing-start false (a .confirmed .now) (a .full .now) (a .cells .now) (a .n)
 
 loop-again : tie.Need-loop-again Inv-loop μ-loop
 loop-again c =
     let l = c .before .before .before in
-    let k = getD (l .before .before .before .before .args .turned .now) (l .loop .i) 0 in
+    let k = getD (l .before .before .before .before .args .confirmed .now) (l .loop .i) 0 in
     let h = c .before .before .loop-test .taken in
     ⊎-elim
     (λ w. rw (w .6, w .7)
-    (writing-more (l .loop .inv) (w .3 .last .0) (w .3 .result) h (says-free (w .0 .taken)) (w .4 .given) (λ T f. remove-writes (l .loop .cells) (l .loop .used) k (w .3 .last .0) (w .3 .result) (w .3 .ensures) T)))
-    (λ w. rw (w .1, w .2) (writing-same (l .loop .inv) h (says-full (w .0 .left))))
+    (writing-more (l .loop .inv) (w .3 .last .0) (w .3 .result) h (means-free (w .0 .taken)) (w .4 .given) (λ T f. remove-writes (l .loop .cells) (l .loop .used) k (w .3 .last .0) (w .3 .result) (w .3 .ensures) T)))
+    (λ w. rw (w .1, w .2) (writing-same (l .loop .inv) h (means-full (w .0 .left))))
     (c .if1 .came)
 
 same-length : tie.Need-same-length Inv-loop μ-loop
@@ -59,12 +41,12 @@ take-out-spec =
     Inv-loop
     μ-loop
     loop-holds
-    shared-slice-read-if1
-    mul-remove
-    shared-slice-read-remove
-    remove-requires
-    add-i
-    loop-less
+    (λ c. search needs)
+    (λ c. search needs)
+    (λ c. search needs)
+    (λ c κs. search needs)
+    (λ c. search needs)
+    (λ c. search needs)
     loop-again
     same-length
     returns)

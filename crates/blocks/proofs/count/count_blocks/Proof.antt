@@ -17,9 +17,6 @@ returns c = (λ h. refl, λ h a. absurd (omega (arith, c .if1 .taken)))
 loop-holds : tie.Need-loop-holds Inv-loop μ-loop
 loop-holds c = counting-none (c .before .before .args .cells .now)
 
-sub-i : tie.Need-sub-i Inv-loop μ-loop
-sub-i c = omega arith
-
 slice-aggregate-plant : tie.Need-slice-aggregate-plant Inv-loop μ-loop
 slice-aggregate-plant c = sym (c .before .before .loop .inv .long)
 
@@ -27,12 +24,6 @@ plant-requires : tie.Need-plant-requires Inv-loop μ-loop
 plant-requires c κs =
     let p = c .before .before in
     (p .loop .inv .down, omega (arith, p .loop .inv .long, p .before .if1 .left), omega (arith, p .loop .inv .inside, c .before .loop-test .taken))
-
-add-joined : tie.Need-add-joined Inv-loop μ-loop
-add-joined c = omega arith
-
-loop-less : tie.Need-loop-less Inv-loop μ-loop
-loop-less c = omega arith
 
 loop-again : tie.Need-loop-again Inv-loop μ-loop
 loop-again c =
@@ -57,11 +48,11 @@ count-blocks-spec =
     μ-loop
     returns
     loop-holds
-    sub-i
+    (λ c. omega arith)
     slice-aggregate-plant
     plant-requires
-    add-joined
-    loop-less
+    (λ c. omega arith)
+    (λ c. omega arith)
     loop-again
     returns-2
     returns-3)

@@ -1,4 +1,4 @@
--- `count::join_above`: the cell above stands next in the table, if anywhere. Assumes nothing.
+-- `count::join_above`: the cell above is next in the table, if anywhere. Assumes nothing.
 use Prim.Native.Nat.{_+_}
 use native.Mathlib.Omega.{arith}
 use mathlib.Core.Path.{refl}
@@ -8,28 +8,13 @@ use Rattle.blocks.proofs.MetLaws.{above-at, above-last, above-touches, 
 use Rattle.blocks.proofs.count.join_above.Statement.{statement}
 use Rattle.blocks.proofs.count.join_above.Tie as tie
 
-mul-k : tie.Need-mul-k
-mul-k c = search needs
-
-shared-slice-read-k : tie.Need-shared-slice-read-k
-shared-slice-read-k c = search needs
-
 returns : tie.Need-returns
 returns c =
     let s = c .before .before .before .before in
     met-none (s .pre .0) (s .pre .1) refl refl (λ a l h b t u. above-last (getD (s .args .cells .now) (s .args .i) 0) (c .if1 .taken) u)
 
-add-join-at : tie.Need-add-join-at
-add-join-at c = search needs
-
 add-join-at-2 : tie.Need-add-join-at-2
 add-join-at-2 c = omega (arith, c .before .shared-slice-known2 .given (c .before .before .before .before .args .i))
-
-join-at-requires : tie.Need-join-at-requires
-join-at-requires c κs = search needs
-
-same-length : tie.Need-same-length
-same-length c = search needs
 
 returns-2 : tie.Need-returns-2
 returns-2 c =
@@ -43,11 +28,11 @@ pub join-above-spec : {M : Type 1} → statement M
 join-above-spec =
     tie.close
     (tie.spec
-    mul-k
-    shared-slice-read-k
+    (λ c. search needs)
+    (λ c. search needs)
     returns
-    add-join-at
+    (λ c. search needs)
     add-join-at-2
-    join-at-requires
-    same-length
+    (λ c κs. search needs)
+    (λ c. search needs)
     returns-2)

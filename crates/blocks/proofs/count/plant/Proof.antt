@@ -10,12 +10,6 @@ use Rattle.blocks.proofs.MetLaws.{planted}
 use Rattle.blocks.proofs.count.plant.Statement.{statement}
 use Rattle.blocks.proofs.count.plant.Tie as tie
 
-mul-parents : tie.Need-mul-parents
-mul-parents c = search needs
-
-slice-write-parents : tie.Need-slice-write-parents
-slice-write-parents c = search needs
-
 join-above-requires : tie.Need-join-above-requires
 join-above-requires c κs =
     let s = c .before .before .before in
@@ -29,9 +23,6 @@ join-right-requires c κs =
     let s = c .before .before .before .before .before .before .before in
     let e : length (m .last .1 .0) ≡ length (s .args .parents .now) = m .kept .1 .0 ∙ length-set (s .args .parents .now) (s .args .i) (s .args .i) in
     (m .ensures .down, m .ensures .fixed, rw e (s .pre .1), s .pre .2)
-
-add-result : tie.Need-add-result
-add-result c = search needs
 
 same-length : tie.Need-same-length
 same-length c =
@@ -49,10 +40,10 @@ pub plant-spec : {M : Type 1} → statement M
 plant-spec =
     tie.close
     (tie.spec
-    mul-parents
-    slice-write-parents
+    (λ c. search needs)
+    (λ c. search needs)
     join-above-requires
     join-right-requires
-    add-result
+    (λ c. search needs)
     same-length
     returns)

@@ -7,19 +7,13 @@ use Rattle.blocks.proofs.ForestLaws.{joined-moved, joined-same, root-le
 use Rattle.blocks.proofs.forest.join.Statement.{statement}
 use Rattle.blocks.proofs.forest.join.Tie as tie
 
-root-of-requires : tie.Need-root-of-requires
-root-of-requires c κs = search needs
-
-same-length : tie.Need-same-length
-same-length c = search needs
-
 returns : tie.Need-returns
 returns c =
     let p = c .before .before .before in
     let s = p .before .before .before in
     joined-same (s .args .parents .now) (p .root-of .last .0) (s .args .to) (s .args .at) (p .root-of .result) (p .root-of .ensures .0) (p .root-of .ensures .1) (c .if1 .taken)
 
--- the root found is no place behind `at`
+-- the root that is found does not come after `at`
 inside : (c : tie.Else1) → c .before .before .before .root-of .result < length (c .before .before .before .root-of .last .0)
 inside c =
     let p = c .before .before .before in
@@ -32,9 +26,6 @@ mul-parents c = omega (arith, inside c)
 slice-write-parents : tie.Need-slice-write-parents
 slice-write-parents c = inside c
 
-same-length-2 : tie.Need-same-length-2
-same-length-2 c = search needs
-
 returns-2 : tie.Need-returns-2
 returns-2 c =
     let p = c .before .before .before in
@@ -45,10 +36,10 @@ pub join-spec : {M : Type 1} → statement M
 join-spec =
     tie.close
     (tie.spec
-    root-of-requires
-    same-length
+    (λ c κs. search needs)
+    (λ c. search needs)
     returns
     mul-parents
     slice-write-parents
-    same-length-2
+    (λ c. search needs)
     returns-2)

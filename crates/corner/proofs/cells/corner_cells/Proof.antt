@@ -1,4 +1,4 @@
--- `cells::corner_cells`: each cell in turn, written where its status is not 0. Assumes nothing.
+-- `cells::corner_cells`: one cell after another, written where its status is not 0. Assumes nothing.
 use Prim.Native.Nat.{_-_, zero-le}
 use native.Mathlib.Omega.{arith}
 use mathlib.Core.Path.{refl}
@@ -27,39 +27,6 @@ returns-2 c =
 
 loop-holds : tie.Need-loop-holds Inv-loop μ-loop
 loop-holds c = let a = c .before .before .before .before .before .args in corners-none (a .cells .now) (a .out .now) (a .statuses .now)
-
-mul-status-of : tie.Need-mul-status-of Inv-loop μ-loop
-mul-status-of c = search needs
-
-shared-slice-read-status-of : tie.Need-shared-slice-read-status-of Inv-loop μ-loop
-shared-slice-read-status-of c = search needs
-
-status-of-requires : tie.Need-status-of-requires Inv-loop μ-loop
-status-of-requires c κs = search needs
-
-mul-out : tie.Need-mul-out Inv-loop μ-loop
-mul-out c = search needs
-
-shared-slice-read-out : tie.Need-shared-slice-read-out Inv-loop μ-loop
-shared-slice-read-out c = search needs
-
-mul-out-2 : tie.Need-mul-out-2 Inv-loop μ-loop
-mul-out-2 c = search needs
-
-slice-write-out : tie.Need-slice-write-out Inv-loop μ-loop
-slice-write-out c = search needs
-
-slice-write-statuses : tie.Need-slice-write-statuses Inv-loop μ-loop
-slice-write-statuses c = search needs
-
-add-n : tie.Need-add-n Inv-loop μ-loop
-add-n c = search needs
-
-add-i : tie.Need-add-i Inv-loop μ-loop
-add-i c = search needs
-
-loop-less : tie.Need-loop-less Inv-loop μ-loop
-loop-less c = search needs
 
 loop-again : tie.Need-loop-again Inv-loop μ-loop
 loop-again c =
@@ -100,17 +67,17 @@ corner-cells-spec =
     returns
     returns-2
     loop-holds
-    mul-status-of
-    shared-slice-read-status-of
-    status-of-requires
-    mul-out
-    shared-slice-read-out
-    mul-out-2
-    slice-write-out
-    slice-write-statuses
-    add-n
-    add-i
-    loop-less
+    (λ c. search needs)
+    (λ c. search needs)
+    (λ c κs. search needs)
+    (λ c. search needs)
+    (λ c. search needs)
+    (λ c. search needs)
+    (λ c. search needs)
+    (λ c. search needs)
+    (λ c. search needs)
+    (λ c. search needs)
+    (λ c. search needs)
     loop-again
     same-length
     same-length-2

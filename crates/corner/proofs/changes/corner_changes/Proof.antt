@@ -1,4 +1,4 @@
--- `changes::corner_changes`: what each turned cell adds, one after another. Assumes nothing.
+-- `changes::corner_changes`: what each confirmed cell adds, one after another. Assumes nothing.
 use Prim.Native.Nat.{_-_, zero-le}
 use native.Mathlib.Omega.{arith}
 use mathlib.Core.Path.{refl}
@@ -8,13 +8,10 @@ use Rattle.corner.proofs.changes.corner_changes.Statement.{statement}
 use Rattle.corner.proofs.changes.corner_changes.Tie as tie
 
 abbrev Inv-loop : tie.InvT-loop
-Inv-loop cells turned out₀ statuses₀ room n₀ i₀ out statuses n i = Sofar cells turned out₀ out statuses₀ statuses n i
+Inv-loop cells confirmed out₀ statuses₀ room n₀ i₀ out statuses n i = Sofar cells confirmed out₀ out statuses₀ statuses n i
 
 abbrev μ-loop : tie.MeasureT-loop
-μ-loop cells turned out₀ statuses₀ room n₀ i₀ out statuses n i = length turned - i
-
-mul-room : tie.Need-mul-room Inv-loop μ-loop
-mul-room c = omega arith
+μ-loop cells confirmed out₀ statuses₀ room n₀ i₀ out statuses n i = length confirmed - i
 
 returns : tie.Need-returns Inv-loop μ-loop
 returns c =
@@ -37,16 +34,7 @@ returns-2 c =
 loop-holds : tie.Need-loop-holds Inv-loop μ-loop
 loop-holds c =
     let a = c .before .before .before .before .before .before .args in
-    sofar-none (a .cells .now) (a .turned .now) (a .out .now) (a .statuses .now)
-
-put-around-requires : tie.Need-put-around-requires Inv-loop μ-loop
-put-around-requires c κs = omega arith
-
-add-i : tie.Need-add-i Inv-loop μ-loop
-add-i c = omega arith
-
-loop-less : tie.Need-loop-less Inv-loop μ-loop
-loop-less c = omega arith
+    sofar-none (a .cells .now) (a .confirmed .now) (a .out .now) (a .statuses .now)
 
 loop-again : tie.Need-loop-again Inv-loop μ-loop
 loop-again c =
@@ -56,20 +44,14 @@ loop-again c =
     let o = t .before .before in
     let a = o .before .before .before .before .before .before .args in
     let r = p .put-around in
-    sofar-next (a .cells .now) (a .turned .now) (a .out .now) (l .out) (r .last .1 .1 .1 .0) (a .statuses .now) (l .statuses) (r .last .1 .1 .1 .1 .0) (l .n) (l .i) (r .result) (t .loop-test .taken) (o .before .if1 .left) (o .if2 .left) (l .inv) (r .kept .1 .1 .1 .0) (r .kept .1 .1 .1 .1 .0) (r .ensures .0) (r .ensures .1)
-
-same-length : tie.Need-same-length Inv-loop μ-loop
-same-length c = omega arith
-
-same-length-2 : tie.Need-same-length-2 Inv-loop μ-loop
-same-length-2 c = omega arith
+    sofar-next (a .cells .now) (a .confirmed .now) (a .out .now) (l .out) (r .last .1 .1 .1 .0) (a .statuses .now) (l .statuses) (r .last .1 .1 .1 .1 .0) (l .n) (l .i) (r .result) (t .loop-test .taken) (o .before .if1 .left) (o .if2 .left) (l .inv) (r .kept .1 .1 .1 .0) (r .kept .1 .1 .1 .1 .0) (r .ensures .0) (r .ensures .1)
 
 returns-3 : tie.Need-returns-3 Inv-loop μ-loop
 returns-3 c =
     let l = c .before .loop in
     let o = c .before .before in
     let a = o .before .before .before .before .before .before .args in (
-      λ ch C e t ca ka i ra rb. sofar-all (a .cells .now) (a .turned .now) (a .out .now) (l .out) (a .statuses .now) (l .statuses) (l .n) (l .i) (c .loop-test .left) (l .inv) ch C e (record { turned = t; cells = ca; turns = ka; inner = i }),
+      λ ch C e t ca ka i ra rb. sofar-all (a .cells .now) (a .confirmed .now) (a .out .now) (l .out) (a .statuses .now) (l .statuses) (l .n) (l .i) (c .loop-test .left) (l .inv) ch C e (record { toggled = t; cells = ca; confirmed = ka; inner = i }),
       λ h. absurd (omega (arith, o .before .if1 .left)),
       λ h. absurd (omega (arith, o .if2 .left)),
       omega (arith, l .inv .up, l .inv .few),
@@ -81,14 +63,14 @@ corner-changes-spec =
     (tie.spec
     Inv-loop
     μ-loop
-    mul-room
+    (λ c. omega arith)
     returns
     returns-2
     loop-holds
-    put-around-requires
-    add-i
-    loop-less
+    (λ c κs. omega arith)
+    (λ c. omega arith)
+    (λ c. omega arith)
     loop-again
-    same-length
-    same-length-2
+    (λ c. omega arith)
+    (λ c. omega arith)
     returns-3)

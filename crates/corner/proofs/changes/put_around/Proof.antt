@@ -10,53 +10,23 @@ use borrow.Author.Needs.{needs}
 use Rattle.corner.proofs.changes.put_around.Statement.{statement}
 use Rattle.corner.proofs.changes.put_around.Tie as tie
 
-mul-e : tie.Need-mul-e
-mul-e c = search needs
-
-shared-slice-read-e : tie.Need-shared-slice-read-e
-shared-slice-read-e c = search needs
-
 returns : tie.Need-returns
 returns c =
     let a = c .before .before .before .before .before .before .args in
     let inside = c .before .before .before .before .before .before .pre .0 in
-    (omega arith, λ C g. let i = given-inner (a .cells .now) (a .turned .now) C (a .i) g inside in absurd (omega (arith, i .0, c .if1 .taken)))
+    (omega arith, λ C g. let i = given-inner (a .cells .now) (a .confirmed .now) C (a .i) g inside in absurd (omega (arith, i .0, c .if1 .taken)))
 
 returns-2 : tie.Need-returns-2
 returns-2 c =
     let a = c .before .before .before .before .before .before .before .args in
     let inside = c .before .before .before .before .before .before .before .pre .0 in
-    (omega arith, λ C g. let i = given-inner (a .cells .now) (a .turned .now) C (a .i) g inside in absurd (omega (arith, i .1, c .if2 .taken)))
-
-window-requires : tie.Need-window-requires
-window-requires c κs = search needs
-
-window-requires-2 : tie.Need-window-requires-2
-window-requires-2 c κs = search needs
-
-corners-of-requires : tie.Need-corners-of-requires
-corners-of-requires c κs = search needs
+    (omega arith, λ C g. let i = given-inner (a .cells .now) (a .confirmed .now) C (a .i) g inside in absurd (omega (arith, i .1, c .if2 .taken)))
 
 corners-of-requires-2 : tie.Need-corners-of-requires-2
 corners-of-requires-2 c κs =
     let v = c .before .before .window in
     let w = c .before .window2 in
     xor-lt 25 (v .result) (w .result) (v .ensures .0) (w .ensures .0)
-
-near-requires : tie.Need-near-requires
-near-requires c κs = search needs
-
-differing-but-requires : tie.Need-differing-but-requires
-differing-but-requires c κs = search needs
-
-put-nine-requires : tie.Need-put-nine-requires
-put-nine-requires c κs = search needs
-
-same-length : tie.Need-same-length
-same-length c = search needs
-
-same-length-2 : tie.Need-same-length-2
-same-length-2 c = search needs
 
 returns-3 : tie.Need-returns-3
 returns-3 c =
@@ -65,35 +35,35 @@ returns-3 c =
     let n = q .before in
     let is = n .before in
     let was = is .before in
-    let turn = was .before in
-    let seen = turn .before in
+    let toggled = was .before in
+    let seen = toggled .before in
     let o = seen .before .before in
     let start = o .before .before .before .before .before .before in
     let a = start .args in
-    let e = getD (a .turned .now) (a .i) 0 in
-    let middle : e ≡ e - 8589934594 + (2 * W + 2) = omega (arith, o .if1 .left) in (
+    let e = getD (a .confirmed .now) (a .i) 0 in
+    let middle : e ≡ e - (2 * W + 2) + (2 * W + 2) = omega (arith, o .if1 .left) in (
       p .put-nine .ensures .0,
       λ C g.
           let w = was .corners-of .result in
           let v = is .corners-of2 .result in
-          rw (words-fresh (a .cells .now) (a .turned .now) C (a .i) (e - 8589934594) (seen .window .result) (turn .window2 .result) g (start .pre .0) middle (seen .window .ensures .1 (g .cells)) (turn .window2 .ensures .1 (g .turns)) (w .sw) (w .se) (w .nw) (w .ne) (v .sw) (v .se) (v .nw) (v .ne) (n .near .result) (q .differing-but .result) (was .corners-of .ensures) (is .corners-of2 .ensures) (n .near .ensures) (q .differing-but .ensures)) at (p .put-nine .ensures .1),
+          rw (words-fresh (a .cells .now) (a .confirmed .now) C (a .i) (e - (2 * W + 2)) (seen .window .result) (toggled .window2 .result) g (start .pre .0) middle (seen .window .ensures .1 (g .cells)) (toggled .window2 .ensures .1 (g .confirmed)) (w .sw) (w .se) (w .nw) (w .ne) (v .sw) (v .se) (v .nw) (v .ne) (n .beside .result) (q .differing-but .result) (was .corners-of .ensures) (is .corners-of2 .ensures) (n .beside .ensures) (q .differing-but .ensures)) at (p .put-nine .ensures .1),
     )
 
 pub put-around-spec : {M : Type 1} → statement M
 put-around-spec =
     tie.close
     (tie.spec
-    mul-e
-    shared-slice-read-e
+    (λ c. search needs)
+    (λ c. search needs)
     returns
     returns-2
-    window-requires
-    window-requires-2
-    corners-of-requires
+    (λ c κs. search needs)
+    (λ c κs. search needs)
+    (λ c κs. search needs)
     corners-of-requires-2
-    near-requires
-    differing-but-requires
-    put-nine-requires
-    same-length
-    same-length-2
+    (λ c κs. search needs)
+    (λ c κs. search needs)
+    (λ c κs. search needs)
+    (λ c. search needs)
+    (λ c. search needs)
     returns-3)

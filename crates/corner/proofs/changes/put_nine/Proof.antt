@@ -19,51 +19,6 @@ loop-holds c =
     let a = c .before .before .args in
     gathering-none (Unit {0}) 9 (pickedAt (a .low) (a .fresh) (a .w .sw) (a .w .se) (a .w .nw) (a .w .ne)) (a .out .now) (a .statuses .now) (a .n)
 
-mul-c : tie.Need-mul-c Inv-loop μ-loop
-mul-c c = omega arith
-
-add-c : tie.Need-add-c Inv-loop μ-loop
-add-c c = omega arith
-
-add-c-2 : tie.Need-add-c-2 Inv-loop μ-loop
-add-c-2 c = omega arith
-
-shr-bit : tie.Need-shr-bit Inv-loop μ-loop
-shr-bit c = omega arith
-
-add-out : tie.Need-add-out Inv-loop μ-loop
-add-out c = omega arith
-
-mul-out : tie.Need-mul-out Inv-loop μ-loop
-mul-out c = omega arith
-
-add-out-2 : tie.Need-add-out-2 Inv-loop μ-loop
-add-out-2 c = omega arith
-
-add-out-3 : tie.Need-add-out-3 Inv-loop μ-loop
-add-out-3 c = omega arith
-
-mul-out-2 : tie.Need-mul-out-2 Inv-loop μ-loop
-mul-out-2 c = omega arith
-
-slice-write-out : tie.Need-slice-write-out Inv-loop μ-loop
-slice-write-out c = omega arith
-
-status-at-requires : tie.Need-status-at-requires Inv-loop μ-loop
-status-at-requires c κs = omega arith
-
-slice-write-statuses : tie.Need-slice-write-statuses Inv-loop μ-loop
-slice-write-statuses c = omega arith
-
-add-m : tie.Need-add-m Inv-loop μ-loop
-add-m c = omega arith
-
-add-d : tie.Need-add-d Inv-loop μ-loop
-add-d c = omega arith
-
-loop-less : tie.Need-loop-less Inv-loop μ-loop
-loop-less c = omega arith
-
 loop-again : tie.Need-loop-again Inv-loop μ-loop
 loop-again c =
     let p = c .before .before in
@@ -81,12 +36,6 @@ loop-again c =
     (gathering-pass (Unit {0}) 9 f (a .out .now) (a .statuses .now) (a .n) (l .out) (l .statuses) (l .m) (l .d) more (room .1) (room .2) (l .inv) (λ t. picked-none (a .low) (a .fresh) (a .w .sw) (a .w .se) (a .w .nw) (a .w .ne) (l .d) (w .0 .left))))
     (c .if1 .came)
 
-same-length : tie.Need-same-length Inv-loop μ-loop
-same-length c = omega arith
-
-same-length-2 : tie.Need-same-length-2 Inv-loop μ-loop
-same-length-2 c = omega arith
-
 returns : tie.Need-returns Inv-loop μ-loop
 returns c =
     let l = c .before .loop in
@@ -100,22 +49,22 @@ put-nine-spec =
     Inv-loop
     μ-loop
     loop-holds
-    mul-c
-    add-c
-    add-c-2
-    shr-bit
-    add-out
-    mul-out
-    add-out-2
-    add-out-3
-    mul-out-2
-    slice-write-out
-    status-at-requires
-    slice-write-statuses
-    add-m
-    add-d
-    loop-less
+    (λ c. omega arith)
+    (λ c. omega arith)
+    (λ c. omega arith)
+    (λ c. omega arith)
+    (λ c. omega arith)
+    (λ c. omega arith)
+    (λ c. omega arith)
+    (λ c. omega arith)
+    (λ c. omega arith)
+    (λ c. omega arith)
+    (λ c κs. omega arith)
+    (λ c. omega arith)
+    (λ c. omega arith)
+    (λ c. omega arith)
+    (λ c. omega arith)
     loop-again
-    same-length
-    same-length-2
+    (λ c. omega arith)
+    (λ c. omega arith)
     returns)

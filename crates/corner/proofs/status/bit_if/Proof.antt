@@ -1,4 +1,4 @@
--- `corner::bit_if`: three questions in turn. Assumes nothing.
+-- `status::bit_if`: three questions, one after another. Assumes nothing.
 use borrow.Author.Needs.{needs}
 use mathlib.Core.Path.{sym, _∙_, refl}
 use native.Mathlib.Omega.{arith}
@@ -6,22 +6,13 @@ use Rattle.corner.specs.Corners.{bitIf}
 use Rattle.corner.proofs.status.bit_if.Statement.{statement}
 use Rattle.corner.proofs.status.bit_if.Tie as tie
 
-contains-requires : tie.Need-contains-requires
-contains-requires c κs = search needs
-
 returns : tie.Need-returns
 unfolding bitIf
 returns c = (λ h. rw (sym (c .before .contains .ensures h) ∙ c .if1 .taken) refl, omega arith)
 
-contains-requires-2 : tie.Need-contains-requires-2
-contains-requires-2 c κs = search needs
-
 returns-2 : tie.Need-returns-2
 unfolding bitIf
 returns-2 c = (λ h. rw (sym (c .before .before .before .contains .ensures h) ∙ c .before .before .if1 .left, sym (c .before .contains2 .ensures h) ∙ c .if2 .taken) refl, omega arith)
-
-contains-requires-3 : tie.Need-contains-requires-3
-contains-requires-3 c κs = search needs
 
 returns-3 : tie.Need-returns-3
 unfolding bitIf
@@ -40,4 +31,4 @@ returns-4 c =
     )
 
 pub bit-if-spec : {M : Type 1} → statement M
-bit-if-spec = tie.close (tie.spec contains-requires returns contains-requires-2 returns-2 contains-requires-3 returns-3 returns-4)
+bit-if-spec = tie.close (tie.spec (λ c κs. search needs) returns (λ c κs. search needs) returns-2 (λ c κs. search needs) returns-3 returns-4)

@@ -19,27 +19,6 @@ loop-holds c =
     let a = c .before .args in
     row-none (a .t .now) (a .base) (a .place) (c .before .pre .0)
 
-add-stands-at : tie.Need-add-stands-at Inv-loop μ-loop
-add-stands-at c = omega arith
-
-stands-at-requires : tie.Need-stands-at-requires Inv-loop μ-loop
-stands-at-requires c κs = search needs
-
-add-bits : tie.Need-add-bits Inv-loop μ-loop
-add-bits c = omega arith
-
-add-at : tie.Need-add-at Inv-loop μ-loop
-add-at c = omega arith
-
-mul-bit : tie.Need-mul-bit Inv-loop μ-loop
-mul-bit c = omega arith
-
-add-j : tie.Need-add-j Inv-loop μ-loop
-add-j c = omega arith
-
-loop-less : tie.Need-loop-less Inv-loop μ-loop
-loop-less c = omega arith
-
 loop-again : tie.Need-loop-again Inv-loop μ-loop
 loop-again c =
     let p = c .before .before .before in
@@ -64,12 +43,12 @@ five-spec =
     Inv-loop
     μ-loop
     loop-holds
-    add-stands-at
-    stands-at-requires
-    add-bits
-    add-at
-    mul-bit
-    add-j
-    loop-less
+    (λ c. omega arith)
+    (λ c κs. search needs)
+    (λ c. omega arith)
+    (λ c. omega arith)
+    (λ c. omega arith)
+    (λ c. omega arith)
+    (λ c. omega arith)
     loop-again
     returns)

@@ -8,7 +8,8 @@ use lib.ListN.{length}
 use lib.Seq.{length-take-le}
 use borrow.Author.Needs.{needs}
 use borrow.Author.Tests.{ltb-false}
-use Rattle.grid.specs.Change.{refuseChange, shortOf}
+use Rattle.model.specs.Limits.{maxCells, needConfirmed, needCorners}
+use Rattle.grid.specs.Change.{Lent, lentOf, refuseChange, refuseInput, shortFor}
 use Rattle.grid.proofs.CallLaws.{accepted, early-refused, late-refused}
 use Rattle.grid.proofs.RefuseLaws.{Passed, change-passed, long-enough}
 use Rattle.grid.proofs.change.change_cells.Statement.{statement}
@@ -18,39 +19,32 @@ use Rattle.grid.proofs.change.change_cells.Tie as tie
 abbrev start : tie.After-is-short → tie.Start
 start p = p .before .before .before .before .before .before
 
--- the refusal that is due by the input, with the lengths written out
-due : (j : tie.After-judge) →
-    let a = start (j .before) .args in
-    j .judge .result ≡ refuseChange (shortOf (length (a .cells .now)) (length (a .confirmed .now)) (length (a .full .now)) (length (a .corners .now)) (length (a .statuses .now))) (a .floor .size) (a .batch .now) (ltb 1024 (a .floor .cells))
+-- the tables as they are lent
+abbrev lent : tie.Start → Lent
+lent s = let a = s .args in lentOf (a .cells .now) (a .confirmed .now) (a .full .now) (a .corners .now) (a .altered .now)
+
+-- the refusal that applies by the input
+due : (j : tie.After-judge) → let s = start (j .before) in j .judge .result ≡ refuseInput (s .args .floor) (s .args .batch .now) (lent s)
 due j =
     let a = start (j .before) .args in
-    j .judge .ensures ∙ ap (λ (s : Bool). refuseChange s (a .floor .size) (a .batch .now) (ltb 1024 (a .floor .cells))) (j .before .is-short .ensures)
+    j .judge .ensures ∙ ap (λ (s : Bool). refuseChange s (a .floor .size) (a .batch .now) (ltb maxCells (a .floor .cells))) (j .before .is-short .ensures)
 
 passed : (c : tie.Else1) →
-    let a = start (c .before .before) .args in
-    Passed (shortOf (length (a .cells .now)) (length (a .confirmed .now)) (length (a .full .now)) (length (a .corners .now)) (length (a .statuses .now))) (a .floor .size) (a .batch .now) (ltb 1024 (a .floor .cells))
+    let s = start (c .before .before) in
+    Passed (shortFor (lent s)) (s .args .floor .size) (s .args .batch .now) (ltb maxCells (s .args .floor .cells))
 passed c =
-    let a = start (c .before .before) .args in
-    change-passed (shortOf (length (a .cells .now)) (length (a .confirmed .now)) (length (a .full .now)) (length (a .corners .now)) (length (a .statuses .now))) (a .floor .size) (a .batch .now) (ltb 1024 (a .floor .cells)) (sym (due (c .before)) ∙ c .if1 .left)
+    let s = start (c .before .before) in
+    change-passed (shortFor (lent s)) (s .args .floor .size) (s .args .batch .now) (ltb maxCells (s .args .floor .cells)) (sym (due (c .before)) ∙ c .if1 .left)
 
 long : (c : tie.Else1) →
-    let a = start (c .before .before) .args in
-    (1024 ≤ length (a .cells .now)) × (256 ≤ length (a .confirmed .now)) × (256 ≤ length (a .full .now)) × (2304 ≤ length (a .corners .now)) × (2304 ≤ length (a .statuses .now))
+    let t = lent (start (c .before .before)) in
+    (maxCells ≤ length (t .cells)) × (needConfirmed ≤ length (t .confirmed)) × (needConfirmed ≤ length (t .full)) × (needCorners ≤ length (t .corners)) × (needCorners ≤ length (t .altered))
 long c =
-    let a = start (c .before .before) .args in
-    long-enough (length (a .cells .now)) (length (a .confirmed .now)) (length (a .full .now)) (length (a .corners .now)) (length (a .statuses .now)) (passed c .long)
+    let t = lent (start (c .before .before)) in
+    long-enough (length (t .cells)) (length (t .confirmed)) (length (t .full)) (length (t .corners)) (length (t .altered)) (passed c .long)
 
-small : (c : tie.Else1) → start (c .before .before) .args .floor .cells ≤ 1024
-small c = ltb-false 1024 (start (c .before .before) .args .floor .cells) (passed c .crowd)
-
-is-short-requires : tie.Need-is-short-requires
-is-short-requires c κs = search needs
-
-judge-requires : tie.Need-judge-requires
-judge-requires c κs = search needs
-
-refused-requires : tie.Need-refused-requires
-refused-requires c κs = search needs
+small : (c : tie.Else1) → start (c .before .before) .args .floor .cells ≤ maxCells
+small c = ltb-false maxCells (start (c .before .before) .args .floor .cells) (passed c .crowd)
 
 returns : tie.Need-returns
 returns c =
@@ -72,15 +66,6 @@ slice-aggregate-count-after c =
     let s = small e in
     sym (length-take-le (a .floor .cells) (a .cells .now) (omega arith))
 
-count-after-requires : tie.Need-count-after-requires
-count-after-requires c κs = search needs
-
-refused-requires-2 : tie.Need-refused-requires-2
-refused-requires-2 c κs = search needs
-
-same-length : tie.Need-same-length
-same-length c = search needs
-
 returns-2 : tie.Need-returns-2
 returns-2 c =
     let k = c .before .before in
@@ -95,21 +80,6 @@ apply-requires c κs =
     let f = passed e .few in
     (small e, l .0, omega (arith, f, l .1), omega (arith, f, l .2))
 
-same-length-2 : tie.Need-same-length-2
-same-length-2 c = search needs
-
-same-length-3 : tie.Need-same-length-3
-same-length-3 c = search needs
-
-same-length-4 : tie.Need-same-length-4
-same-length-4 c = search needs
-
-same-length-5 : tie.Need-same-length-5
-same-length-5 c = search needs
-
-same-length-6 : tie.Need-same-length-6
-same-length-6 c = search needs
-
 returns-3 : tie.Need-returns-3
 returns-3 c =
     let y = c .before .before .before .before .before .before .before .before .before .before in
@@ -123,20 +93,20 @@ pub change-cells-spec : {M : Type 1} → statement M
 change-cells-spec =
     tie.close
     (tie.spec
-    is-short-requires
-    judge-requires
-    refused-requires
+    (λ c κs. search needs)
+    (λ c κs. search needs)
+    (λ c κs. search needs)
     returns
     slice-reshare-prefix-count-after
     slice-aggregate-count-after
-    count-after-requires
-    refused-requires-2
-    same-length
+    (λ c κs. search needs)
+    (λ c κs. search needs)
+    (λ c. search needs)
     returns-2
     apply-requires
-    same-length-2
-    same-length-3
-    same-length-4
-    same-length-5
-    same-length-6
+    (λ c. search needs)
+    (λ c. search needs)
+    (λ c. search needs)
+    (λ c. search needs)
+    (λ c. search needs)
     returns-3)

@@ -8,23 +8,20 @@ use mathlib.Core.Bool.{true, false}
 use mathlib.Core.List.{List}
 use lib.ListN.{length}
 use Rattle.held.proofs.RoomLaws.{SameLong, same-both, same-none}
-use Rattle.held.specs.Holds.{Tables, needs as needsOf}
+use Rattle.held.specs.Holds.{Tables, needs as needsOf, tablesOf}
 use Rattle.model.specs.Refusal.{short}
 use Rattle.window.specs.Refilled.{Within, bytesOf}
-use Rattle.window.specs.Wanted.{wanted}
+use Rattle.model.specs.Limits.{needWindow}
 use Rattle.intake.proofs.GoingLaws.{Going, behind, go-done, go-fill, go-more, go-refused, go-start, tables-long, within-long}
 use Rattle.intake.proofs.input.read_fields.Statement.{statement}
 use Rattle.intake.proofs.input.read_fields.Tie as tie
 
-abbrev tables : List ℕ → List ℕ → List ℕ → List ℕ → List ℕ → Tables
-tables cells points statuses blockers pairs = record { cells = cells; points = points; statuses = statuses; blockers = blockers; pairs = pairs }
-
 abbrev Inv-loop : tie.InvT-loop
 Inv-loop fd buffer₀ cells₀ points₀ statuses₀ blockers₀ pairs₀ reader₀ window₀ room₀ buffer cells points statuses blockers pairs reader window room =
     (length buffer ≡ length buffer₀)
-    × SameLong (tables cells₀ points₀ statuses₀ blockers₀ pairs₀) (tables cells points statuses blockers pairs)
+    × SameLong (tablesOf cells₀ points₀ statuses₀ blockers₀ pairs₀) (tablesOf cells points statuses blockers pairs)
     × Within window buffer
-    × Going (length buffer₀) (tables cells₀ points₀ statuses₀ blockers₀ pairs₀) reader (tables cells points statuses blockers pairs) (bytesOf window buffer) (window .ended) room
+    × Going (length buffer₀) (tablesOf cells₀ points₀ statuses₀ blockers₀ pairs₀) reader (tablesOf cells points statuses blockers pairs) (bytesOf window buffer) (window .ended) room
 
 abbrev μ-loop : tie.MeasureT-loop
 μ-loop fd buffer₀ cells₀ points₀ statuses₀ blockers₀ pairs₀ reader₀ window₀ room₀ buffer cells points statuses blockers pairs reader window room = room
@@ -44,13 +41,13 @@ start p = p .before .before .before .before .before .before .before .before
 
 -- the tables at the start, in the loop, and after a field
 abbrev lent : tie.Start Inv-loop μ-loop → Tables
-lent s = let a = s .args in tables (a .cells .now) (a .points .now) (a .statuses .now) (a .blockers .now) (a .pairs .now)
+lent s = let a = s .args in tablesOf (a .cells .now) (a .points .now) (a .statuses .now) (a .blockers .now) (a .pairs .now)
 
 abbrev held : tie.At-loop Inv-loop μ-loop → Tables
-held p = let l = p .loop in tables (l .cells) (l .points) (l .statuses) (l .blockers) (l .pairs)
+held p = let l = p .loop in tablesOf (l .cells) (l .points) (l .statuses) (l .blockers) (l .pairs)
 
 abbrev after : tie.After-one-field Inv-loop μ-loop → Tables
-after p = let k = p .one-field .last .1 .1 in tables (k .0) (k .1 .0) (k .1 .1 .0) (k .1 .1 .1 .0) (k .1 .1 .1 .1 .0)
+after p = let k = p .one-field .last .1 .1 in tablesOf (k .0) (k .1 .0) (k .1 .1 .0) (k .1 .1 .1 .0) (k .1 .1 .1 .1 .0)
 
 -- all of them keep their lengths, and so does the buffer
 same : (p : tie.After-one-field Inv-loop μ-loop) → SameLong (lent (start (looping (refilled p)))) (after p)
@@ -65,7 +62,7 @@ buffered p = p .refill .kept .1 .0 ∙ looping p .loop .inv .0
 small : (s : tie.Start Inv-loop μ-loop) → length (s .args .buffer .now) < 2 ^ 63
 small s = omega arith
 
-long : (s : tie.Start Inv-loop μ-loop) → (wanted ≤ length (s .args .buffer .now)) × (short (needsOf (lent s)) ≡ false)
+long : (s : tie.Start Inv-loop μ-loop) → (needWindow ≤ length (s .args .buffer .now)) × (short (needsOf (lent s)) ≡ false)
 long s = tables-long (s .args .buffer .now) (lent s) (s .pre)
 
 -- the window when it was refilled: its bytes, and what is known of them
@@ -82,16 +79,13 @@ fits p =
     let e = within-long (p .refill .result) (p .refill .last .1 .0) i in
     omega (arith, e, i .0, i .1, buffered p)
 
-wide : (p : tie.After-refill Inv-loop μ-loop) → (p .refill .result .ended ≡ true) ⊎ (wanted ≤ length (bytes p))
+wide : (p : tie.After-refill Inv-loop μ-loop) → (p .refill .result .ended ≡ true) ⊎ (needWindow ≤ length (bytes p))
 wide p =
     let l = looping p .loop in
     let i = p .refill .ensures .inside in
     let e = within-long (p .refill .result) (p .refill .last .1 .0) i in
-    let h : wanted ≤ length (l .buffer) = omega (arith, l .inv .0, long (start (looping p)) .0) in
-    ⊎-elim (λ z. inl z) (λ (k : wanted ≤ p .refill .result .end - p .refill .result .from). let j : wanted ≤ length (bytes p) = omega (arith, e, k) in inr j) (p .refill .ensures .enough h (l .inv .2))
-
-begin-requires : tie.Need-begin-requires Inv-loop μ-loop
-begin-requires c κs = tt
+    let h : needWindow ≤ length (l .buffer) = omega (arith, l .inv .0, long (start (looping p)) .0) in
+    ⊎-elim (λ z. inl z) (λ (k : needWindow ≤ p .refill .result .end - p .refill .result .from). let j : needWindow ≤ length (bytes p) = omega (arith, e, k) in inr j) (p .refill .ensures .enough h (l .inv .2))
 
 sub-room : tie.Need-sub-room Inv-loop μ-loop
 sub-room c = omega (arith, small (c .before .before .before .before .before .before .before))
@@ -101,30 +95,6 @@ loop-holds c =
     let s = c .before .before .before .before .before .before .before in
     (refl, same-none (lent s), omega arith, go-start (length (s .args .buffer .now)) (lent s) (c .begin .result) _ (c .begin .ensures) refl (small s))
 
-refill-requires : tie.Need-refill-requires Inv-loop μ-loop
-refill-requires c κs = tt
-
-same-length : tie.Need-same-length Inv-loop μ-loop
-same-length c = buffered (c .before .before .before)
-
-same-length-2 : tie.Need-same-length-2 Inv-loop μ-loop
-same-length-2 c = looping (c .before .before .before) .loop .inv .1 .cells
-
-same-length-3 : tie.Need-same-length-3 Inv-loop μ-loop
-same-length-3 c = looping (c .before .before .before) .loop .inv .1 .points
-
-same-length-4 : tie.Need-same-length-4 Inv-loop μ-loop
-same-length-4 c = looping (c .before .before .before) .loop .inv .1 .statuses
-
-same-length-5 : tie.Need-same-length-5 Inv-loop μ-loop
-same-length-5 c = looping (c .before .before .before) .loop .inv .1 .blockers
-
-same-length-6 : tie.Need-same-length-6 Inv-loop μ-loop
-same-length-6 c = looping (c .before .before .before) .loop .inv .1 .pairs
-
-returns : tie.Need-returns Inv-loop μ-loop
-returns c = tt
-
 sub-one-field : tie.Need-sub-one-field Inv-loop μ-loop
 sub-one-field c = c .before .before .before .refill .ensures .inside .0
 
@@ -133,33 +103,6 @@ part-one-field-start c = c .before .before .before .before .refill .ensures .ins
 
 part-one-field-end : tie.Need-part-one-field-end Inv-loop μ-loop
 part-one-field-end c = c .before .before .before .before .refill .ensures .inside .1
-
-one-field-requires : tie.Need-one-field-requires Inv-loop μ-loop
-one-field-requires c κs = tt
-
-enum-known-reading : tie.Need-enum-known-reading Inv-loop μ-loop
-enum-known-reading c = search needs
-
-same-length-7 : tie.Need-same-length-7 Inv-loop μ-loop
-same-length-7 c = buffered (refilled (turn (c .before .before .before .before)))
-
-same-length-8 : tie.Need-same-length-8 Inv-loop μ-loop
-same-length-8 c = same (turn (c .before .before .before .before)) .cells
-
-same-length-9 : tie.Need-same-length-9 Inv-loop μ-loop
-same-length-9 c = same (turn (c .before .before .before .before)) .points
-
-same-length-10 : tie.Need-same-length-10 Inv-loop μ-loop
-same-length-10 c = same (turn (c .before .before .before .before)) .statuses
-
-same-length-11 : tie.Need-same-length-11 Inv-loop μ-loop
-same-length-11 c = same (turn (c .before .before .before .before)) .blockers
-
-same-length-12 : tie.Need-same-length-12 Inv-loop μ-loop
-same-length-12 c = same (turn (c .before .before .before .before)) .pairs
-
-returns-2 : tie.Need-returns-2 Inv-loop μ-loop
-returns-2 c = tt
 
 add-window : tie.Need-add-window Inv-loop μ-loop
 add-window c =
@@ -190,54 +133,12 @@ loop-again c =
     let g = go-more (going r) {t′ = after p} (p .one-field .ensures) (w .reading .given .0 .0) (w .reading .given .0 .1 .0) (w .reading .given .1) (wide r) (room c) in
     (buffered r, same p, (omega (arith, i .0, i .1, e, u), i .1), rw (behind (r .refill .result .from) (r .refill .result .end) (w .reading .given .0 .1 .0) (r .refill .last .1 .0)) g)
 
-enum-known-reading-2 : tie.Need-enum-known-reading-2 Inv-loop μ-loop
-enum-known-reading-2 c = search needs
-
-same-length-13 : tie.Need-same-length-13 Inv-loop μ-loop
-same-length-13 c = buffered (refilled (turn (c .before .before .before)))
-
-same-length-14 : tie.Need-same-length-14 Inv-loop μ-loop
-same-length-14 c = same (turn (c .before .before .before)) .cells
-
-same-length-15 : tie.Need-same-length-15 Inv-loop μ-loop
-same-length-15 c = same (turn (c .before .before .before)) .points
-
-same-length-16 : tie.Need-same-length-16 Inv-loop μ-loop
-same-length-16 c = same (turn (c .before .before .before)) .statuses
-
-same-length-17 : tie.Need-same-length-17 Inv-loop μ-loop
-same-length-17 c = same (turn (c .before .before .before)) .blockers
-
-same-length-18 : tie.Need-same-length-18 Inv-loop μ-loop
-same-length-18 c = same (turn (c .before .before .before)) .pairs
-
 returns-3 : tie.Need-returns-3 Inv-loop μ-loop
 returns-3 c =
     let w = c .before in
     let p = turn (w .before .before) in
     let r = refilled p in
     (going r .bytes, go-refused (going r) {t′ = after p} (p .one-field .ensures) (long (start (looping r)) .1) (fits r) (w .reading2 .given .0 .0) (w .reading2 .given .0 .1 .0) (w .reading2 .given .1))
-
-enum-known-reading-3 : tie.Need-enum-known-reading-3 Inv-loop μ-loop
-enum-known-reading-3 c = search needs
-
-same-length-19 : tie.Need-same-length-19 Inv-loop μ-loop
-same-length-19 c = buffered (refilled (turn (c .before .before .before)))
-
-same-length-20 : tie.Need-same-length-20 Inv-loop μ-loop
-same-length-20 c = same (turn (c .before .before .before)) .cells
-
-same-length-21 : tie.Need-same-length-21 Inv-loop μ-loop
-same-length-21 c = same (turn (c .before .before .before)) .points
-
-same-length-22 : tie.Need-same-length-22 Inv-loop μ-loop
-same-length-22 c = same (turn (c .before .before .before)) .statuses
-
-same-length-23 : tie.Need-same-length-23 Inv-loop μ-loop
-same-length-23 c = same (turn (c .before .before .before)) .blockers
-
-same-length-24 : tie.Need-same-length-24 Inv-loop μ-loop
-same-length-24 c = same (turn (c .before .before .before)) .pairs
 
 returns-4 : tie.Need-returns-4 Inv-loop μ-loop
 returns-4 c =
@@ -252,45 +153,45 @@ read-fields-spec =
     (tie.spec
     Inv-loop
     μ-loop
-    begin-requires
+    (λ c κs. tt)
     sub-room
     loop-holds
-    refill-requires
-    same-length
-    same-length-2
-    same-length-3
-    same-length-4
-    same-length-5
-    same-length-6
-    returns
+    (λ c κs. tt)
+    (λ c. buffered (c .before .before .before))
+    (λ c. looping (c .before .before .before) .loop .inv .1 .cells)
+    (λ c. looping (c .before .before .before) .loop .inv .1 .points)
+    (λ c. looping (c .before .before .before) .loop .inv .1 .statuses)
+    (λ c. looping (c .before .before .before) .loop .inv .1 .blockers)
+    (λ c. looping (c .before .before .before) .loop .inv .1 .pairs)
+    (λ c. tt)
     sub-one-field
     part-one-field-start
     part-one-field-end
-    one-field-requires
-    enum-known-reading
-    same-length-7
-    same-length-8
-    same-length-9
-    same-length-10
-    same-length-11
-    same-length-12
-    returns-2
+    (λ c κs. tt)
+    (λ c. search needs)
+    (λ c. buffered (refilled (turn (c .before .before .before .before))))
+    (λ c. same (turn (c .before .before .before .before)) .cells)
+    (λ c. same (turn (c .before .before .before .before)) .points)
+    (λ c. same (turn (c .before .before .before .before)) .statuses)
+    (λ c. same (turn (c .before .before .before .before)) .blockers)
+    (λ c. same (turn (c .before .before .before .before)) .pairs)
+    (λ c. tt)
     add-window
     loop-less
     loop-again
-    enum-known-reading-2
-    same-length-13
-    same-length-14
-    same-length-15
-    same-length-16
-    same-length-17
-    same-length-18
+    (λ c. search needs)
+    (λ c. buffered (refilled (turn (c .before .before .before))))
+    (λ c. same (turn (c .before .before .before)) .cells)
+    (λ c. same (turn (c .before .before .before)) .points)
+    (λ c. same (turn (c .before .before .before)) .statuses)
+    (λ c. same (turn (c .before .before .before)) .blockers)
+    (λ c. same (turn (c .before .before .before)) .pairs)
     returns-3
-    enum-known-reading-3
-    same-length-19
-    same-length-20
-    same-length-21
-    same-length-22
-    same-length-23
-    same-length-24
+    (λ c. search needs)
+    (λ c. buffered (refilled (turn (c .before .before .before))))
+    (λ c. same (turn (c .before .before .before)) .cells)
+    (λ c. same (turn (c .before .before .before)) .points)
+    (λ c. same (turn (c .before .before .before)) .statuses)
+    (λ c. same (turn (c .before .before .before)) .blockers)
+    (λ c. same (turn (c .before .before .before)) .pairs)
     returns-4)

@@ -11,11 +11,8 @@ returns c = λ _. refl
 slice-aggregate-write-all : tie.Need-slice-aggregate-write-all
 slice-aggregate-write-all c = let a = c .before .before .before .args in let e = length-take (a .n) (a .out .now) in omega arith
 
-write-all-requires : tie.Need-write-all-requires
-write-all-requires c κs = tt
-
 returns-2 : tie.Need-returns-2
 returns-2 c = λ h. absurd (omega arith)
 
 pub put-front-spec : {M : Type 1} → statement M
-put-front-spec = tie.close (tie.spec returns slice-aggregate-write-all write-all-requires returns-2)
+put-front-spec = tie.close (tie.spec returns slice-aggregate-write-all (λ c κs. tt) returns-2)

@@ -3,15 +3,15 @@ use Prim.Native.Nat.{ℕ, _+_, _≤_}
 use native.Mathlib.Omega.{arith}
 use mathlib.Core.Path.{_≡_, refl, sym, ap, _∙_}
 use mathlib.Core.Bool.{false}
-use mathlib.Core.List.{List}
+use mathlib.Core.List.{List, []}
 use lib.ListN.{length}
 use borrow.Author.Needs.{needs}
-use Rattle.answers.proofs.PassedLaws.{lacks-short, none-short}
+use Rattle.answers.proofs.PassedLaws.{none-short}
 use Rattle.mapfile.specs.Fields.{expectedOf, headOf}
 use Rattle.model.specs.MapFile as model
 use Rattle.model.specs.MapFile.{takeBatch, takeEnd, takeRadius, takeSize, taken}
 use Rattle.model.specs.Refusal.{short}
-use Rattle.held.specs.Holds.{Tables}
+use Rattle.held.specs.Holds.{Tables, tablesOf}
 use Rattle.held.specs.Holds as tables
 use Rattle.mapfile.specs.Reads.{FieldRead, Took}
 use Rattle.mapfile.specs.declared.state.Reading.{Reading}
@@ -21,8 +21,8 @@ use Rattle.mapfile.proofs.field.one_field.Statement.{statement}
 use Rattle.mapfile.proofs.field.one_field.Tie as tie
 
 -- the places: the start; a head that is read, with no refusal due; the map opened; the batch done
-abbrev start : tie.After-lacks5 → tie.Start
-start p = p .before .before .before .before .before .before .before .before .before .before .before
+abbrev start : tie.After-lacks-tables → tie.Start
+start p = p .before .before .before .before .before .before .before
 
 abbrev given : tie.After-read-head → tie.Start
 given p = start (p .before .before .before)
@@ -38,25 +38,16 @@ batched p = p .before .before .before .before .before .before .before .before .b
 
 -- the tables as they are lent, and as a field 02 or 03 leaves them
 abbrev lent : tie.Start → Tables
-lent s = let a = s .args in record { cells = a .cells .now; points = a .points .now; statuses = a .statuses .now; blockers = a .blockers .now; pairs = a .pairs .now }
+lent s = let a = s .args in tablesOf (a .cells .now) (a .points .now) (a .statuses .now) (a .blockers .now) (a .pairs .now)
 
 abbrev opened : tie.After-take-radius → Tables
-opened p = let k = p .take-radius .last .1 .1 .1 in record { cells = k .0; points = k .1 .0; statuses = k .1 .1 .0; blockers = k .1 .1 .1 .0; pairs = k .1 .1 .1 .1 .0 }
+opened p = let k = p .take-radius .last .1 .1 .1 in tablesOf (k .0) (k .1 .0) (k .1 .1 .0) (k .1 .1 .1 .0) (k .1 .1 .1 .1 .0)
 
 abbrev changed : tie.After-take-batch → Tables
-changed p = let k = p .take-batch .last .1 .1 .1 in record { cells = k .0; points = k .1 .0; statuses = k .1 .1 .0; blockers = k .1 .1 .1 .0; pairs = k .1 .1 .1 .1 .0 }
+changed p = let k = p .take-batch .last .1 .1 .1 in tablesOf (k .0) (k .1 .0) (k .1 .1 .0) (k .1 .1 .1 .0) (k .1 .1 .1 .1 .0)
 
-judged : (p : tie.After-lacks5) → p .lacks5 .result ≡ short (tables.needs (lent (start p)))
-judged p =
-    let j = p .before in
-    let i = j .before in
-    let h = i .before in
-    let g = h .before in
-    let e1 = lacks-short _ 4096 _ false (g .lacks .result) (g .lacks .ensures) none-short in
-    let e2 = lacks-short _ 64 _ (g .lacks .result) (h .lacks2 .result) (h .lacks2 .ensures) e1 in
-    let e3 = lacks-short _ 64 _ (h .lacks2 .result) (i .lacks3 .result) (i .lacks3 .ensures) e2 in
-    let e4 = lacks-short _ 64 _ (i .lacks3 .result) (j .lacks4 .result) (j .lacks4 .ensures) e3 in
-    lacks-short _ 1024 _ (j .lacks4 .result) (p .lacks5 .result) (p .lacks5 .ensures) e4
+judged : (p : tie.After-lacks-tables) → p .lacks-tables .result ≡ short (tables.needs (lent (start p)))
+judged p = p .lacks-tables .ensures [] none-short
 
 long : (p : tie.Else1) → short (tables.needs (lent (start (p .before)))) ≡ false
 long p = sym (judged (p .before)) ∙ p .if1 .left
@@ -77,37 +68,16 @@ taking p e x takes how t a w =
     let g = given d in
     field-taken (g .args .reader) (g .args .bytes .now) (lent g) (long (d .before .before)) (d .before .if2 .left) (d .read-head .result) (d .read-head .ensures) (p .before .if3 .left) e x takes how t a w
 
-lacks-requires : tie.Need-lacks-requires
-lacks-requires c κs = tt
-
-lacks-requires-2 : tie.Need-lacks-requires-2
-lacks-requires-2 c κs = tt
-
-lacks-requires-3 : tie.Need-lacks-requires-3
-lacks-requires-3 c κs = tt
-
-lacks-requires-4 : tie.Need-lacks-requires-4
-lacks-requires-4 c κs = tt
-
-lacks-requires-5 : tie.Need-lacks-requires-5
-lacks-requires-5 c κs = tt
-
 returns : tie.Need-returns
 returns c =
     let s = start (c .before) in
     field-lacking (s .args .reader) (s .args .bytes .now) (lent s) (sym (judged (c .before)) ∙ c .if1 .taken)
-
-stop-requires : tie.Need-stop-requires
-stop-requires c κs = tt
 
 returns-2 : tie.Need-returns-2
 returns-2 c =
     let e = c .before .before in
     let s = start (e .before) in
     field-stopped (s .args .reader) (s .args .bytes .now) (lent s) (long e) (c .before .if2 .taken) (c .stop .result) (c .stop .ensures)
-
-read-head-requires : tie.Need-read-head-requires
-read-head-requires c κs = tt
 
 returns-3 : tie.Need-returns-3
 returns-3 c =
@@ -118,65 +88,14 @@ returns-3 c =
 add-used : tie.Need-add-used
 add-used c = let w = within c in omega arith
 
-enum-told : tie.Need-enum-told
-enum-told c = search needs
-
-sub-take-size : tie.Need-sub-take-size
-sub-take-size c = search needs
-
-part-take-size-start : tie.Need-part-take-size-start
-part-take-size-start c = search needs
-
 part-take-size-end : tie.Need-part-take-size-end
 part-take-size-end c = within (c .before .before)
-
-take-size-requires : tie.Need-take-size-requires
-take-size-requires c κs = tt
-
-enum-told-2 : tie.Need-enum-told-2
-enum-told-2 c = search needs
-
-sub-take-radius : tie.Need-sub-take-radius
-sub-take-radius c = search needs
-
-part-take-radius-start : tie.Need-part-take-radius-start
-part-take-radius-start c = search needs
 
 part-take-radius-end : tie.Need-part-take-radius-end
 part-take-radius-end c = within (c .before .before)
 
-take-radius-requires : tie.Need-take-radius-requires
-take-radius-requires c κs = tt
-
-enum-told-3 : tie.Need-enum-told-3
-enum-told-3 c = search needs
-
-sub-take-batch : tie.Need-sub-take-batch
-sub-take-batch c = search needs
-
-part-take-batch-start : tie.Need-part-take-batch-start
-part-take-batch-start c = search needs
-
 part-take-batch-end : tie.Need-part-take-batch-end
 part-take-batch-end c = within (c .before .before .before .before)
-
-take-batch-requires : tie.Need-take-batch-requires
-take-batch-requires c κs = tt
-
-same-length : tie.Need-same-length
-same-length c = batched c .take-batch .kept .1 .1 .1 .0
-
-same-length-2 : tie.Need-same-length-2
-same-length-2 c = batched c .take-batch .kept .1 .1 .1 .1 .0
-
-same-length-3 : tie.Need-same-length-3
-same-length-3 c = batched c .take-batch .kept .1 .1 .1 .1 .1 .0
-
-same-length-4 : tie.Need-same-length-4
-same-length-4 c = batched c .take-batch .kept .1 .1 .1 .1 .1 .1 .0
-
-same-length-5 : tie.Need-same-length-5
-same-length-5 c = batched c .take-batch .kept .1 .1 .1 .1 .1 .1 .1 .0
 
 returns-4 : tie.Need-returns-4
 returns-4 c =
@@ -192,12 +111,6 @@ returns-4 c =
     taking p model.batches x takeBatch (is-batch (h .tag) (f .if4 .taken)) (changed k) (k .take-batch .result)
     (k .take-batch .ensures (batch-long b h q z (f .if4 .taken)) (batch-flags b h q z (f .if4 .taken)))
 
-onward-requires : tie.Need-onward-requires
-onward-requires c κs = tt
-
-enum-told-4 : tie.Need-enum-told-4
-enum-told-4 c = search needs
-
 returns-5 : tie.Need-returns-5
 returns-5 c =
     let m = c .before .before in
@@ -208,21 +121,6 @@ returns-5 c =
     let b = g .args .bytes .now in
     taking p model.size x takeSize (λ R v rest. refl) (lent g) (c .take-size .result)
     (rw (c .take-size .ensures) (took-size (g .args .reader) (valueOf h b) (h .length + 3) (lent g) (size-long b h (head p model.size x) (p .before .if3 .left))))
-
-same-length-6 : tie.Need-same-length-6
-same-length-6 c = ended c .take-radius .kept .1 .1 .1 .0
-
-same-length-7 : tie.Need-same-length-7
-same-length-7 c = ended c .take-radius .kept .1 .1 .1 .1 .0
-
-same-length-8 : tie.Need-same-length-8
-same-length-8 c = ended c .take-radius .kept .1 .1 .1 .1 .1 .0
-
-same-length-9 : tie.Need-same-length-9
-same-length-9 c = ended c .take-radius .kept .1 .1 .1 .1 .1 .1 .0
-
-same-length-10 : tie.Need-same-length-10
-same-length-10 c = ended c .take-radius .kept .1 .1 .1 .1 .1 .1 .1 .0
 
 returns-6 : tie.Need-returns-6
 returns-6 c =
@@ -254,46 +152,42 @@ pub one-field-spec : {M : Type 1} → statement M
 one-field-spec =
     tie.close
     (tie.spec
-    lacks-requires
-    lacks-requires-2
-    lacks-requires-3
-    lacks-requires-4
-    lacks-requires-5
+    (λ c κs. tt)
     returns
-    stop-requires
+    (λ c κs. tt)
     returns-2
-    read-head-requires
+    (λ c κs. tt)
     returns-3
     add-used
-    enum-told
-    sub-take-size
-    part-take-size-start
+    (λ c. search needs)
+    (λ c. search needs)
+    (λ c. search needs)
     part-take-size-end
-    take-size-requires
-    enum-told-2
-    sub-take-radius
-    part-take-radius-start
+    (λ c κs. tt)
+    (λ c. search needs)
+    (λ c. search needs)
+    (λ c. search needs)
     part-take-radius-end
-    take-radius-requires
-    enum-told-3
-    sub-take-batch
-    part-take-batch-start
+    (λ c κs. tt)
+    (λ c. search needs)
+    (λ c. search needs)
+    (λ c. search needs)
     part-take-batch-end
-    take-batch-requires
-    same-length
-    same-length-2
-    same-length-3
-    same-length-4
-    same-length-5
+    (λ c κs. tt)
+    (λ c. batched c .take-batch .kept .1 .1 .1 .0)
+    (λ c. batched c .take-batch .kept .1 .1 .1 .1 .0)
+    (λ c. batched c .take-batch .kept .1 .1 .1 .1 .1 .0)
+    (λ c. batched c .take-batch .kept .1 .1 .1 .1 .1 .1 .0)
+    (λ c. batched c .take-batch .kept .1 .1 .1 .1 .1 .1 .1 .0)
     returns-4
-    onward-requires
-    enum-told-4
+    (λ c κs. tt)
+    (λ c. search needs)
     returns-5
-    same-length-6
-    same-length-7
-    same-length-8
-    same-length-9
-    same-length-10
+    (λ c. ended c .take-radius .kept .1 .1 .1 .0)
+    (λ c. ended c .take-radius .kept .1 .1 .1 .1 .0)
+    (λ c. ended c .take-radius .kept .1 .1 .1 .1 .1 .0)
+    (λ c. ended c .take-radius .kept .1 .1 .1 .1 .1 .1 .0)
+    (λ c. ended c .take-radius .kept .1 .1 .1 .1 .1 .1 .1 .0)
     returns-6
     returns-7
     returns-8)

@@ -1,5 +1,5 @@
 -- `field::take_radius`: refused, or on to the batches. Assumes nothing.
-use Rattle.held.specs.Holds.{Tables}
+use Rattle.held.specs.Holds.{Tables, tablesOf}
 use Rattle.mapfile.proofs.RadiusLaws.{radius-refused, radius-taken}
 use Rattle.mapfile.proofs.field.take_radius.Statement.{statement}
 use Rattle.mapfile.proofs.field.take_radius.Tie as tie
@@ -16,31 +16,10 @@ ended p = p .before .before .before .before .before .before .before .before .bef
 
 -- the tables as they are lent, and as they are left
 abbrev lent : tie.Start → Tables
-lent s = let a = s .args in record { cells = a .cells .now; points = a .points .now; statuses = a .statuses .now; blockers = a .blockers .now; pairs = a .pairs .now }
+lent s = let a = s .args in tablesOf (a .cells .now) (a .points .now) (a .statuses .now) (a .blockers .now) (a .pairs .now)
 
 abbrev left : tie.After-open → Tables
-left p = let k = p .«open» .last .1 .1 in record { cells = k .0; points = k .1 .0; statuses = k .1 .1 .0; blockers = k .1 .1 .1 .0; pairs = k .1 .1 .1 .1 .0 }
-
-float-at-requires : tie.Need-float-at-requires
-float-at-requires c κs = tt
-
-open-requires : tie.Need-open-requires
-open-requires c κs = tt
-
-same-length : tie.Need-same-length
-same-length c = ended (c .before) .«open» .kept .1 .1 .0
-
-same-length-2 : tie.Need-same-length-2
-same-length-2 c = ended (c .before) .«open» .kept .1 .1 .1 .0
-
-same-length-3 : tie.Need-same-length-3
-same-length-3 c = ended (c .before) .«open» .kept .1 .1 .1 .1 .0
-
-same-length-4 : tie.Need-same-length-4
-same-length-4 c = ended (c .before) .«open» .kept .1 .1 .1 .1 .1 .0
-
-same-length-5 : tie.Need-same-length-5
-same-length-5 c = ended (c .before) .«open» .kept .1 .1 .1 .1 .1 .1 .0
+left p = let k = p .«open» .last .1 .1 in tablesOf (k .0) (k .1 .0) (k .1 .1 .0) (k .1 .1 .1 .0) (k .1 .1 .1 .1 .0)
 
 returns : tie.Need-returns
 returns c l =
@@ -48,24 +27,6 @@ returns c l =
     let f = float o in
     let s = start f in
     radius-refused (s .args .reader) (s .args .value .now) (s .args .used) (lent s) (left o) (o .«open» .result) (f .float-at .result) (f .float-at .ensures) (o .«open» .ensures) l (c .if1 .taken)
-
-onward-requires : tie.Need-onward-requires
-onward-requires c κs = tt
-
-same-length-6 : tie.Need-same-length-6
-same-length-6 c = ended (c .before .before .before) .«open» .kept .1 .1 .0
-
-same-length-7 : tie.Need-same-length-7
-same-length-7 c = ended (c .before .before .before) .«open» .kept .1 .1 .1 .0
-
-same-length-8 : tie.Need-same-length-8
-same-length-8 c = ended (c .before .before .before) .«open» .kept .1 .1 .1 .1 .0
-
-same-length-9 : tie.Need-same-length-9
-same-length-9 c = ended (c .before .before .before) .«open» .kept .1 .1 .1 .1 .1 .0
-
-same-length-10 : tie.Need-same-length-10
-same-length-10 c = ended (c .before .before .before) .«open» .kept .1 .1 .1 .1 .1 .1 .0
 
 returns-2 : tie.Need-returns-2
 returns-2 c l =
@@ -79,18 +40,18 @@ pub take-radius-spec : {M : Type 1} → statement M
 take-radius-spec =
     tie.close
     (tie.spec
-    float-at-requires
-    open-requires
-    same-length
-    same-length-2
-    same-length-3
-    same-length-4
-    same-length-5
+    (λ c κs. tt)
+    (λ c κs. tt)
+    (λ c. ended (c .before) .«open» .kept .1 .1 .0)
+    (λ c. ended (c .before) .«open» .kept .1 .1 .1 .0)
+    (λ c. ended (c .before) .«open» .kept .1 .1 .1 .1 .0)
+    (λ c. ended (c .before) .«open» .kept .1 .1 .1 .1 .1 .0)
+    (λ c. ended (c .before) .«open» .kept .1 .1 .1 .1 .1 .1 .0)
     returns
-    onward-requires
-    same-length-6
-    same-length-7
-    same-length-8
-    same-length-9
-    same-length-10
+    (λ c κs. tt)
+    (λ c. ended (c .before .before .before) .«open» .kept .1 .1 .0)
+    (λ c. ended (c .before .before .before) .«open» .kept .1 .1 .1 .0)
+    (λ c. ended (c .before .before .before) .«open» .kept .1 .1 .1 .1 .0)
+    (λ c. ended (c .before .before .before) .«open» .kept .1 .1 .1 .1 .1 .0)
+    (λ c. ended (c .before .before .before) .«open» .kept .1 .1 .1 .1 .1 .1 .0)
     returns-2)

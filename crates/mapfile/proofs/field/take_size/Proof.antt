@@ -6,20 +6,11 @@ use Rattle.mapfile.proofs.field.take_size.Tie as tie
 abbrev start : tie.After-bad-size → tie.Start
 start p = p .before .before .before
 
-float-at-requires : tie.Need-float-at-requires
-float-at-requires c κs = tt
-
-bad-size-requires : tie.Need-bad-size-requires
-bad-size-requires c κs = tt
-
 returns : tie.Need-returns
 returns c =
     let p = c .before in
     let a = start p .args in
     size-refused (a .reader) (a .value .now) (a .used) (p .before .float-at .result) (p .bad-size .result) (p .before .float-at .ensures) (p .bad-size .ensures) (c .if1 .taken)
-
-onward-requires : tie.Need-onward-requires
-onward-requires c κs = tt
 
 returns-2 : tie.Need-returns-2
 returns-2 c =
@@ -30,4 +21,4 @@ returns-2 c =
 
 pub take-size-spec : {M : Type 1} → statement M
 take-size-spec =
-    tie.close (tie.spec float-at-requires bad-size-requires returns onward-requires returns-2)
+    tie.close (tie.spec (λ c κs. tt) (λ c κs. tt) returns (λ c κs. tt) returns-2)

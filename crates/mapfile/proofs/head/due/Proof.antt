@@ -18,9 +18,6 @@ returns c =
     let a = c .before .before .before .args in
     due-long (a .tag) (a .n) (a .rest .now) (long (a .tag) (a .n) (c .before .if1 .taken) (c .if2 .taken))
 
-fitting-requires : tie.Need-fitting-requires
-fitting-requires c κs = search needs
-
 -- no batch that is too long
 not-long : (c : tie.Joined1) → Long (c .before .before .args .tag) (c .before .before .args .n) false
 not-long c =
@@ -45,9 +42,6 @@ slice-aggregate-bad-flags c =
     let e = c .before .before in
     let a = e .before .before .before .before .before .args in
     sym (length-take-le (a .n) (a .rest .now) (e .if4 .left))
-
-bad-flags-requires : tie.Need-bad-flags-requires
-bad-flags-requires c κs = search needs
 
 -- by the flags of a batch
 judged : (c : tie.After-bad-flags) (a : Bool) → c .bad-flags .result ≡ a → cond a 10 0 ≡ due (c .before .before .before .before .before .before .before .before .args .tag) (c .before .before .before .before .before .before .before .before .args .n) (c .before .before .before .before .before .before .before .before .args .rest .now)
@@ -75,11 +69,11 @@ due-spec =
     tie.close
     (tie.spec
     returns
-    fitting-requires
+    (λ c κs. search needs)
     returns-2
     returns-3
     slice-aggregate-bad-flags
-    bad-flags-requires
+    (λ c κs. search needs)
     returns-4
     returns-5
     returns-6)

@@ -5,20 +5,8 @@ use borrow.Author.Tests.{eq-eqb, ne-eqb}
 use Rattle.mapfile.proofs.head.placed.Statement.{statement}
 use Rattle.mapfile.proofs.head.placed.Tie as tie
 
-enum-told : tie.Need-enum-told
-enum-told c = search needs
-
-enum-told-2 : tie.Need-enum-told-2
-enum-told-2 c = search needs
-
-enum-told-3 : tie.Need-enum-told-3
-enum-told-3 c = search needs
-
 returns : tie.Need-returns
 returns c = rw (c .before .enum-told3 .given .1, eq-eqb (c .before .before .before .args .tag) 3 (c .if1 .taken)) refl
-
-enum-told-4 : tie.Need-enum-told-4
-enum-told-4 c = search needs
 
 returns-2 : tie.Need-returns-2
 returns-2 c = rw (c .enum-told .given .1) refl
@@ -29,19 +17,16 @@ returns-3 c = rw (c .enum-told2 .given .1) refl
 returns-4 : tie.Need-returns-4
 returns-4 c = rw (c .before .enum-told3 .given .1, ne-eqb (c .before .before .before .args .tag) 3 (c .if1 .left)) refl
 
-returns-5 : tie.Need-returns-5
-returns-5 c = search needs
-
 pub placed-spec : {M : Type 1} → statement M
 placed-spec =
     tie.close
     (tie.spec
-    enum-told
-    enum-told-2
-    enum-told-3
+    (λ c. search needs)
+    (λ c. search needs)
+    (λ c. search needs)
     returns
-    enum-told-4
+    (λ c. search needs)
     returns-2
     returns-3
     returns-4
-    returns-5)
+    (λ c. search needs))

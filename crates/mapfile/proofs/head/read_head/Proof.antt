@@ -8,22 +8,10 @@ use borrow.Author.Needs.{needs}
 use Rattle.mapfile.proofs.head.read_head.Statement.{statement}
 use Rattle.mapfile.proofs.head.read_head.Tie as tie
 
-refused-requires : tie.Need-refused-requires
-refused-requires c κs = search needs
-
 returns : tie.Need-returns
 returns c =
     let a = c .before .before .before .args in
     c .refused .ensures ∙ head-refused (expectedOf (a .expected)) (a .bytes .now) 10 (at-short (expectedOf (a .expected)) (a .bytes .now) (c .before .if1 .taken)) (λ e. omega arith)
-
-shared-slice-read-tag : tie.Need-shared-slice-read-tag
-shared-slice-read-tag c = search needs
-
-placed-requires : tie.Need-placed-requires
-placed-requires c κs = search needs
-
-refused-requires-2 : tie.Need-refused-requires-2
-refused-requires-2 c κs = search needs
 
 returns-2 : tie.Need-returns-2
 returns-2 c =
@@ -31,39 +19,6 @@ returns-2 c =
     let a = p .before .before .before .before .args in
     let f = sym (p .placed .ensures) ∙ not-true (p .placed .result) (c .before .if2 .taken) in
     c .refused2 .ensures ∙ head-refused (expectedOf (a .expected)) (a .bytes .now) 10 (at-unplaced (expectedOf (a .expected)) (a .bytes .now) (p .before .before .if1 .left) f) (λ e. omega arith)
-
-shared-slice-read-wide : tie.Need-shared-slice-read-wide
-shared-slice-read-wide c = search needs
-
-wide-requires : tie.Need-wide-requires
-wide-requires c κs = search needs
-
-mul-n : tie.Need-mul-n
-mul-n c = search needs
-
-shared-slice-read-wide-2 : tie.Need-shared-slice-read-wide-2
-shared-slice-read-wide-2 c = search needs
-
-wide-requires-2 : tie.Need-wide-requires-2
-wide-requires-2 c κs = search needs
-
-add-n : tie.Need-add-n
-add-n c = search needs
-
-sub-due : tie.Need-sub-due
-sub-due c = search needs
-
-part-due-start : tie.Need-part-due-start
-part-due-start c = search needs
-
-part-due-end : tie.Need-part-due-end
-part-due-end c = search needs
-
-due-requires : tie.Need-due-requires
-due-requires c κs = search needs
-
-refused-requires-3 : tie.Need-refused-requires-3
-refused-requires-3 c κs = search needs
 
 -- what is due
 found : (c : tie.After-due) → c .due .result ≡ dueAt (expectedOf (c .before .before .before .before .before .before .before .before .before .before .before .args .expected)) (c .before .before .before .before .before .before .before .before .before .before .before .args .bytes .now)
@@ -93,22 +48,22 @@ pub read-head-spec : {M : Type 1} → statement M
 read-head-spec =
     tie.close
     (tie.spec
-    refused-requires
+    (λ c κs. search needs)
     returns
-    shared-slice-read-tag
-    placed-requires
-    refused-requires-2
+    (λ c. search needs)
+    (λ c κs. search needs)
+    (λ c κs. search needs)
     returns-2
-    shared-slice-read-wide
-    wide-requires
-    mul-n
-    shared-slice-read-wide-2
-    wide-requires-2
-    add-n
-    sub-due
-    part-due-start
-    part-due-end
-    due-requires
-    refused-requires-3
+    (λ c. search needs)
+    (λ c κs. search needs)
+    (λ c. search needs)
+    (λ c. search needs)
+    (λ c κs. search needs)
+    (λ c. search needs)
+    (λ c. search needs)
+    (λ c. search needs)
+    (λ c. search needs)
+    (λ c κs. search needs)
+    (λ c κs. search needs)
     returns-3
     returns-4)

@@ -41,26 +41,14 @@ mul-v c = let h = below c in omega arith
 shared-slice-read-wide : tie.Need-shared-slice-read-wide Inv-loop μ-loop
 shared-slice-read-wide c = inside (c .before)
 
-wide-requires : tie.Need-wide-requires Inv-loop μ-loop
-wide-requires c κs = search needs
-
 add-v : tie.Need-add-v Inv-loop μ-loop
 add-v c = let h = below (c .before .before) in omega arith
-
-add-i : tie.Need-add-i Inv-loop μ-loop
-add-i c = omega arith
-
-loop-less : tie.Need-loop-less Inv-loop μ-loop
-loop-less c = omega arith
 
 loop-again : tie.Need-loop-again Inv-loop μ-loop
 loop-again c =
     let t = c .before .before in
     let l = t .before .before .loop in
     one-read (t .before .before .before .before .args .value .now) (l .v) (l .i) (c .wide .result) (t .before .loop-test .taken) (inside t) (c .wide .ensures .0) (c .wide .ensures .1) (l .inv)
-
-float-of-requires : tie.Need-float-of-requires Inv-loop μ-loop
-float-of-requires c κs = search needs
 
 returns : tie.Need-returns Inv-loop μ-loop
 returns c =
@@ -76,10 +64,10 @@ float-at-spec =
     loop-holds
     mul-v
     shared-slice-read-wide
-    wide-requires
+    (λ c κs. search needs)
     add-v
-    add-i
-    loop-less
+    (λ c. omega arith)
+    (λ c. omega arith)
     loop-again
-    float-of-requires
+    (λ c κs. search needs)
     returns)

@@ -1,4 +1,4 @@
--- `mapfile::value::numbers_of`: the entries passed are written. Assumes nothing.
+-- `value::numbers_of`: the entries passed are written. Assumes nothing.
 use Prim.Native.Nat.{_+_, _-_, _*_, _^_, _≤_, _<_}
 use native.Mathlib.Omega.{arith}
 use mathlib.Core.Path.{ap, _∙_}
@@ -24,12 +24,6 @@ returns c = lacks-room (c .before .before .args .value .now) (c .before .before 
 loop-holds : tie.Need-loop-holds Inv-loop μ-loop
 loop-holds c = writing-none (c .before .before .args .value .now) (c .before .before .args .out .now) (c .if1 .left)
 
-add-loop : tie.Need-add-loop Inv-loop μ-loop
-add-loop c = omega arith
-
-int-at-requires : tie.Need-int-at-requires Inv-loop μ-loop
-int-at-requires c κs = omega arith
-
 -- there is room for an entry
 room : (c : tie.In-loop Inv-loop μ-loop) → c .before .loop .n + 3 ≤ length (c .before .loop .out)
 room c =
@@ -53,12 +47,6 @@ mul-out c = let h = bytes (c .before) in omega arith
 slice-set-from-out : tie.Need-slice-set-from-out Inv-loop μ-loop
 slice-set-from-out c = let h = room (c .before) in omega arith
 
-add-int-at : tie.Need-add-int-at Inv-loop μ-loop
-add-int-at c = omega arith
-
-int-at-requires-2 : tie.Need-int-at-requires-2 Inv-loop μ-loop
-int-at-requires-2 c κs = omega arith
-
 add-out : tie.Need-add-out Inv-loop μ-loop
 add-out c = let h = bytes (c .before .before) in omega arith
 
@@ -67,18 +55,6 @@ mul-out-2 c = let h = bytes (c .before .before) in omega arith
 
 slice-set-from-out-2 : tie.Need-slice-set-from-out-2 Inv-loop μ-loop
 slice-set-from-out-2 c = let h = room (c .before .before) in simp length-set (omega arith)
-
-add-wide : tie.Need-add-wide Inv-loop μ-loop
-add-wide c = omega arith
-
-shared-slice-read-wide : tie.Need-shared-slice-read-wide Inv-loop μ-loop
-shared-slice-read-wide c = omega arith
-
-wide-requires : tie.Need-wide-requires Inv-loop μ-loop
-wide-requires c κs = search needs
-
-cast-out : tie.Need-cast-out Inv-loop μ-loop
-cast-out c = search needs
 
 add-t10 : tie.Need-add-t10 Inv-loop μ-loop
 add-t10 c = let h = bytes (c .before .before .before .before) in omega arith
@@ -89,14 +65,8 @@ mul-t15 c = let h = bytes (c .before .before .before .before) in omega arith
 slice-set-from-out-3 : tie.Need-slice-set-from-out-3 Inv-loop μ-loop
 slice-set-from-out-3 c = let h = room (c .before .before .before .before) in simp length-set (omega arith)
 
-add-at : tie.Need-add-at Inv-loop μ-loop
-add-at c = omega arith
-
 add-n : tie.Need-add-n Inv-loop μ-loop
 add-n c = let h = bytes (c .before .before .before .before) in omega arith
-
-loop-less : tie.Need-loop-less Inv-loop μ-loop
-loop-less c = omega arith
 
 loop-again : tie.Need-loop-again Inv-loop μ-loop
 loop-again c =
@@ -108,9 +78,6 @@ loop-again c =
     let hy : SFits w64 (y .int-at2 .result) = search needs in
     let hf : SFits w64 (pos (c .wide .result)) = search needs in
     writing-more (a .value .now) (a .out .now) (l .out) (l .at) (l .n) (l .inv) _ _ _ (x .before .loop-test .taken) (toZ-ofZ w64 (x .int-at .result) hx ∙ x .int-at .ensures) (toZ-ofZ w64 (y .int-at2 .result) hy ∙ y .int-at2 .ensures) (toZ-ofZ w64 (pos (c .wide .result)) hf ∙ ap pos (c .wide .ensures .0))
-
-same-length : tie.Need-same-length Inv-loop μ-loop
-same-length c = c .before .loop .inv .long
 
 returns-2 : tie.Need-returns-2 Inv-loop μ-loop
 returns-2 c =
@@ -126,25 +93,25 @@ numbers-of-spec =
     μ-loop
     returns
     loop-holds
-    add-loop
-    int-at-requires
+    (λ c. omega arith)
+    (λ c κs. omega arith)
     mul-out
     slice-set-from-out
-    add-int-at
-    int-at-requires-2
+    (λ c. omega arith)
+    (λ c κs. omega arith)
     add-out
     mul-out-2
     slice-set-from-out-2
-    add-wide
-    shared-slice-read-wide
-    wide-requires
-    cast-out
+    (λ c. omega arith)
+    (λ c. omega arith)
+    (λ c κs. search needs)
+    (λ c. search needs)
     add-t10
     mul-t15
     slice-set-from-out-3
-    add-at
+    (λ c. omega arith)
     add-n
-    loop-less
+    (λ c. omega arith)
     loop-again
-    same-length
+    (λ c. c .before .loop .inv .long)
     returns-2)

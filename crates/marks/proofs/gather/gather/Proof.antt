@@ -3,38 +3,21 @@ use Prim.Native.Nat.{_-_}
 use native.Mathlib.Omega.{arith}
 use borrow.Author.Tests.{leb-true, leb-false}
 use lib.ListN.{length}
+use Rattle.marks.specs.Marked.{maxCandidates}
 use Rattle.marks.proofs.GatherLaws.{Gathered, gathered-none, gathered-more, gathered-done}
 use Rattle.marks.proofs.gather.gather.Statement.{statement}
 use Rattle.marks.proofs.gather.gather.Tie as tie
 
 abbrev Inv-loop : tie.InvT-loop
-Inv-loop t₀ n corners statuses s used₀ i₀ t used i = Gathered t₀ t corners statuses n used i s
+Inv-loop candidates₀ n corners altered shift used₀ i₀ candidates used i = Gathered candidates₀ candidates corners altered n used i shift
 
 abbrev μ-loop : tie.MeasureT-loop
-μ-loop t₀ n corners statuses s used₀ i₀ t used i = length corners - i
+μ-loop candidates₀ n corners altered shift used₀ i₀ candidates used i = length corners - i
 
 loop-holds : tie.Need-loop-holds Inv-loop μ-loop
 loop-holds c =
     let a = c .before .before .before .args in
-    gathered-none (a .t .now) (a .corners .now) (a .statuses .now) (a .n) (a .s)
-
-mul-put-corners : tie.Need-mul-put-corners Inv-loop μ-loop
-mul-put-corners c = omega arith
-
-shared-slice-read-put-corners : tie.Need-shared-slice-read-put-corners Inv-loop μ-loop
-shared-slice-read-put-corners c = omega arith
-
-shared-slice-read-put-corners-2 : tie.Need-shared-slice-read-put-corners-2 Inv-loop μ-loop
-shared-slice-read-put-corners-2 c = omega arith
-
-put-corners-requires : tie.Need-put-corners-requires Inv-loop μ-loop
-put-corners-requires c κs = omega arith
-
-add-i : tie.Need-add-i Inv-loop μ-loop
-add-i c = omega arith
-
-loop-less : tie.Need-loop-less Inv-loop μ-loop
-loop-less c = omega arith
+    gathered-none (a .candidates .now) (a .corners .now) (a .altered .now) (a .n) (a .shift)
 
 loop-again : tie.Need-loop-again Inv-loop μ-loop
 loop-again c =
@@ -43,7 +26,7 @@ loop-again c =
     let p = i .before .before in
     let l = p .loop in
     let a = p .before .before .before .before .args in
-    gathered-more (a .t .now) (l .t) (a .corners .now) (a .statuses .now) (a .n) (l .used) (l .i) (a .s) (l .inv) (i .before .loop-test .taken) (leb-true (l .used) 128 (i .if1 .taken)) (r .last .0) (r .result) (r .kept .0) (r .ensures)
+    gathered-more (a .candidates .now) (l .candidates) (a .corners .now) (a .altered .now) (a .n) (l .used) (l .i) (a .shift) (l .inv) (i .before .loop-test .taken) (leb-true (l .used) maxCandidates (i .if1 .taken)) (r .last .0) (r .result) (r .kept .0) (r .ensures)
 
 same-length : tie.Need-same-length Inv-loop μ-loop
 same-length c = c .before .before .loop .inv .long
@@ -53,7 +36,7 @@ returns c =
     let p = c .before .before in
     let l = p .loop in
     let a = p .before .before .before .before .args in
-    gathered-done (a .t .now) (l .t) (a .corners .now) (a .statuses .now) (a .n) (l .used) (l .i) (a .s) (l .inv) (λ h. absurd (omega (arith, leb-false (l .used) 128 (c .if1 .left))))
+    gathered-done (a .candidates .now) (l .candidates) (a .corners .now) (a .altered .now) (a .n) (l .used) (l .i) (a .shift) (l .inv) (λ h. absurd (omega (arith, leb-false (l .used) maxCandidates (c .if1 .left))))
 
 same-length-2 : tie.Need-same-length-2 Inv-loop μ-loop
 same-length-2 c = c .before .loop .inv .long
@@ -63,7 +46,7 @@ returns-2 c =
     let p = c .before in
     let l = p .loop in
     let a = p .before .before .before .before .args in
-    gathered-done (a .t .now) (l .t) (a .corners .now) (a .statuses .now) (a .n) (l .used) (l .i) (a .s) (l .inv) (λ h. c .loop-test .left)
+    gathered-done (a .candidates .now) (l .candidates) (a .corners .now) (a .altered .now) (a .n) (l .used) (l .i) (a .shift) (l .inv) (λ h. c .loop-test .left)
 
 pub gather-spec : {M : Type 1} → statement M
 gather-spec =
@@ -72,12 +55,12 @@ gather-spec =
     Inv-loop
     μ-loop
     loop-holds
-    mul-put-corners
-    shared-slice-read-put-corners
-    shared-slice-read-put-corners-2
-    put-corners-requires
-    add-i
-    loop-less
+    (λ c. omega arith)
+    (λ c. omega arith)
+    (λ c. omega arith)
+    (λ c κs. omega arith)
+    (λ c. omega arith)
+    (λ c. omega arith)
     loop-again
     same-length
     returns

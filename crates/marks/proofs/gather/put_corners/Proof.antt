@@ -11,31 +11,16 @@ use Rattle.marks.proofs.gather.put_corners.Statement.{statement}
 use Rattle.marks.proofs.gather.put_corners.Tie as tie
 
 abbrev Inv-loop : tie.InvT-loop
-Inv-loop t₀ n k status s bits used₀ d₀ t used d = Put t₀ t n used d k status s
+Inv-loop candidates₀ n k status shift here used₀ d₀ candidates used d = Put candidates₀ candidates n used d k status shift
 
 abbrev μ-loop : tie.MeasureT-loop
-μ-loop t₀ n k status s bits used₀ d₀ t used d = 4 - d
+μ-loop candidates₀ n k status shift here used₀ d₀ candidates used d = 4 - d
 
 loop-holds : tie.Need-loop-holds Inv-loop μ-loop
-loop-holds c = let a = c .before .args in put-none (a .t .now) (a .n) (a .k) (a .status) (a .s)
-
-corner-at-requires : tie.Need-corner-at-requires Inv-loop μ-loop
-corner-at-requires c κs = tt
-
-get-requires : tie.Need-get-requires Inv-loop μ-loop
-get-requires c κs = tt
+loop-holds c = let a = c .before .args in put-none (a .candidates .now) (a .n) (a .k) (a .status) (a .shift)
 
 shifted-requires : tie.Need-shifted-requires Inv-loop μ-loop
 shifted-requires c κs = c .before .before .before .before .before .before .before .pre
-
-insert-requires : tie.Need-insert-requires Inv-loop μ-loop
-insert-requires c κs = tt
-
-add-d : tie.Need-add-d Inv-loop μ-loop
-add-d c = omega arith
-
-loop-less : tie.Need-loop-less Inv-loop μ-loop
-loop-less c = omega arith
 
 loop-again : tie.Need-loop-again Inv-loop μ-loop
 loop-again c =
@@ -49,8 +34,8 @@ loop-again c =
     ⊎-elim
     (λ w.
     rw (w .6, w .7)
-    (put-more (a .t .now) (l .t) (a .n) (l .used) (l .d) (a .k) (a .status) (a .s) more (l .inv) (g .get .result) seen (w .0 .taken) (w .2 .result) (w .2 .ensures) (w .3 .last .0) (w .3 .result) (w .3 .kept .0) (w .3 .ensures)))
-    (λ w. rw (w .1, w .2) (put-pass (a .t .now) (l .t) (a .n) (l .used) (l .d) (a .k) (a .status) (a .s) more (l .inv) (g .get .result) seen (w .0 .left)))
+    (put-more (a .candidates .now) (l .candidates) (a .n) (l .used) (l .d) (a .k) (a .status) (a .shift) more (l .inv) (g .get .result) seen (w .0 .taken) (w .2 .result) (w .2 .ensures) (w .3 .last .0) (w .3 .result) (w .3 .kept .0) (w .3 .ensures)))
+    (λ w. rw (w .1, w .2) (put-pass (a .candidates .now) (l .candidates) (a .n) (l .used) (l .d) (a .k) (a .status) (a .shift) more (l .inv) (g .get .result) seen (w .0 .left)))
     (c .if1 .came)
 
 same-length : tie.Need-same-length Inv-loop μ-loop
@@ -60,7 +45,7 @@ returns : tie.Need-returns Inv-loop μ-loop
 returns c =
     let l = c .before .loop in
     let a = c .before .before .before .args in
-    put-done (a .t .now) (l .t) (a .n) (l .used) (l .d) (a .k) (a .status) (a .s) (c .loop-test .left) (l .inv)
+    put-done (a .candidates .now) (l .candidates) (a .n) (l .used) (l .d) (a .k) (a .status) (a .shift) (c .loop-test .left) (l .inv)
 
 pub put-corners-spec : {M : Type 1} → statement M
 put-corners-spec =
@@ -69,12 +54,12 @@ put-corners-spec =
     Inv-loop
     μ-loop
     loop-holds
-    corner-at-requires
-    get-requires
+    (λ c κs. tt)
+    (λ c κs. tt)
     shifted-requires
-    insert-requires
-    add-d
-    loop-less
+    (λ c κs. tt)
+    (λ c. omega arith)
+    (λ c. omega arith)
     loop-again
     same-length
     returns)

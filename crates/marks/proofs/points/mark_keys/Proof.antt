@@ -4,18 +4,6 @@ use borrow.Author.Needs.{needs}
 use Rattle.marks.proofs.points.mark_keys.Statement.{statement}
 use Rattle.marks.proofs.points.mark_keys.Tie as tie
 
-begin-requires : tie.Need-begin-requires
-begin-requires c κs = search needs
-
-mark-all-requires : tie.Need-mark-all-requires
-mark-all-requires c κs = search needs
-
-count-requires : tie.Need-count-requires
-count-requires c κs = search needs
-
-same-length : tie.Need-same-length
-same-length c = search needs
-
 abbrev start : tie.After-begin → tie.Start
 start b = b .before .before .before .before .before .before .before .before .before .before
 
@@ -25,20 +13,8 @@ returns c =
     let m = n .before .before .before .before in
     let b = m .before .before .before .before in
     let a = start b .args in
-    λ ps cs M ro rt o e.
-    keys-many (a .shift) ps cs (a .points .now) (a .statuses .now) (a .corners .now) (a .bits .now) M (a .ks .now) (b .begin .last .1 .1 .1 .0) (m .mark-all .last .1 .0) o e (b .begin .ensures) (m .mark-all .ensures .1) (n .count .result) (n .count .ensures .1) (c .if1 .taken) (a .out .now) (a .told .now)
-
-pick-requires : tie.Need-pick-requires
-pick-requires c κs = search needs
-
-same-length-2 : tie.Need-same-length-2
-same-length-2 c = search needs
-
-same-length-3 : tie.Need-same-length-3
-same-length-3 c = search needs
-
-same-length-4 : tie.Need-same-length-4
-same-length-4 c = search needs
+    λ ps changed M ro rt o e.
+    keys-many (a .shift) ps changed (a .points .now) (a .statuses .now) (a .corners .now) (a .altered .now) M (a .candidates .now) (b .begin .last .1 .1 .1 .0) (m .mark-all .last .1 .0) o e (b .begin .ensures) (m .mark-all .ensures .1) (n .count .result) (n .count .ensures .1) (c .if1 .taken) (a .out .now) (a .told .now)
 
 returns-2 : tie.Need-returns-2
 returns-2 c =
@@ -48,21 +24,21 @@ returns-2 c =
     let m = n .before .before .before .before in
     let b = m .before .before .before .before in
     let a = start b .args in
-    λ ps cs M ro rt o e.
-    keys-few (a .shift) ps cs (a .points .now) (a .statuses .now) (a .corners .now) (a .bits .now) M (a .ks .now) (b .begin .last .1 .1 .1 .0) (m .mark-all .last .1 .0) o e (b .begin .ensures) (m .mark-all .ensures .1) (n .count .result) (n .count .ensures .1) (f .if1 .left)
+    λ ps changed M ro rt o e.
+    keys-few (a .shift) ps changed (a .points .now) (a .statuses .now) (a .corners .now) (a .altered .now) M (a .candidates .now) (b .begin .last .1 .1 .1 .0) (m .mark-all .last .1 .0) o e (b .begin .ensures) (m .mark-all .ensures .1) (n .count .result) (n .count .ensures .1) (f .if1 .left)
     (a .out .now) (q .pick .last .1 .1 .0) (a .told .now) (q .pick .last .1 .1 .1 .0) (q .pick .result) ro rt (q .pick .ensures)
 
 pub mark-keys-spec : {M : Type 1} → statement M
 mark-keys-spec =
     tie.close
     (tie.spec
-    begin-requires
-    mark-all-requires
-    count-requires
-    same-length
+    (λ c κs. search needs)
+    (λ c κs. search needs)
+    (λ c κs. search needs)
+    (λ c. search needs)
     returns
-    pick-requires
-    same-length-2
-    same-length-3
-    same-length-4
+    (λ c κs. search needs)
+    (λ c. search needs)
+    (λ c. search needs)
+    (λ c. search needs)
     returns-2)

@@ -9,21 +9,15 @@ use Rattle.marks.proofs.points.pick.Statement.{statement}
 use Rattle.marks.proofs.points.pick.Tie as tie
 
 abbrev Inv-loop : tie.InvT-loop
-Inv-loop ks moods out₀ told₀ n₀ i₀ out told n i = Picked ks moods out₀ out told₀ told n i
+Inv-loop candidates moods out₀ told₀ n₀ i₀ out told n i = Picked candidates moods out₀ out told₀ told n i
 
 abbrev μ-loop : tie.MeasureT-loop
-μ-loop ks moods out₀ told₀ n₀ i₀ out told n i = length ks - i
+μ-loop candidates moods out₀ told₀ n₀ i₀ out told n i = length candidates - i
 
 loop-holds : tie.Need-loop-holds Inv-loop μ-loop
 loop-holds c =
     let a = c .args in
-    picked-none (a .ks .now) (a .moods .now) (a .out .now) (a .told .now)
-
-mul-if1 : tie.Need-mul-if1 Inv-loop μ-loop
-mul-if1 c = omega arith
-
-shared-slice-read-if1 : tie.Need-shared-slice-read-if1 Inv-loop μ-loop
-shared-slice-read-if1 c = omega arith
+    picked-none (a .candidates .now) (a .moods .now) (a .out .now) (a .told .now)
 
 -- there is room in both
 abbrev at : tie.Then3 Inv-loop μ-loop → tie.At-loop Inv-loop μ-loop
@@ -35,23 +29,11 @@ cells c = ltb-true (at c .loop .n) (length (at c .loop .out)) (c .before .if2 .t
 numbers : (c : tie.Then3 Inv-loop μ-loop) → at c .loop .n < length (at c .loop .told)
 numbers c = ltb-true (at c .loop .n) (length (at c .loop .told)) (c .if3 .taken)
 
-mul-out : tie.Need-mul-out Inv-loop μ-loop
-mul-out c = omega arith
-
-shared-slice-read-out : tie.Need-shared-slice-read-out Inv-loop μ-loop
-shared-slice-read-out c = omega arith
-
 mul-out-2 : tie.Need-mul-out-2 Inv-loop μ-loop
 mul-out-2 c = omega (arith, cells (c .before))
 
 slice-write-out : tie.Need-slice-write-out Inv-loop μ-loop
 slice-write-out c = omega (arith, cells (c .before))
-
-mul-told : tie.Need-mul-told Inv-loop μ-loop
-mul-told c = omega arith
-
-shared-slice-read-told : tie.Need-shared-slice-read-told Inv-loop μ-loop
-shared-slice-read-told c = omega arith
 
 mul-told-2 : tie.Need-mul-told-2 Inv-loop μ-loop
 mul-told-2 c = omega (arith, numbers (c .before .before))
@@ -62,12 +44,6 @@ slice-write-told c = omega (arith, numbers (c .before .before))
 add-n : tie.Need-add-n Inv-loop μ-loop
 add-n c = omega (arith, cells (c .before .before))
 
-add-i : tie.Need-add-i Inv-loop μ-loop
-add-i c = omega arith
-
-loop-less : tie.Need-loop-less Inv-loop μ-loop
-loop-less c = omega arith
-
 loop-again : tie.Need-loop-again Inv-loop μ-loop
 loop-again c =
     let t = c .before .before in
@@ -75,10 +51,10 @@ loop-again c =
     let o = t .before .before in
     let a = o .args in
     let more : l .i < length (a .moods .now) = omega (arith, o .pre, t .loop-test .taken) in
-    let pass = picked-pass (a .ks .now) (a .moods .now) (a .out .now) (l .out) (a .told .now) (l .told) (l .n) (l .i) (l .inv) more in
-    let full = picked-full (a .ks .now) (a .moods .now) (a .out .now) (l .out) (a .told .now) (l .told) (l .n) (l .i) (l .inv) more in
+    let pass = picked-pass (a .candidates .now) (a .moods .now) (a .out .now) (l .out) (a .told .now) (l .told) (l .n) (l .i) (l .inv) more in
+    let full = picked-full (a .candidates .now) (a .moods .now) (a .out .now) (l .out) (a .told .now) (l .told) (l .n) (l .i) (l .inv) more in
     ⊎-elim
-    (λ w. rw (w .5, w .6, w .7) (picked-more (a .ks .now) (a .moods .now) (a .out .now) (l .out) (a .told .now) (l .told) (l .n) (l .i) (l .inv) more (w .0 .taken) (ltb-true (l .n) (length (l .out)) (w .1 .taken)) (ltb-true (l .n) (length (l .told)) (w .2 .taken))))
+    (λ w. rw (w .5, w .6, w .7) (picked-more (a .candidates .now) (a .moods .now) (a .out .now) (l .out) (a .told .now) (l .told) (l .n) (l .i) (l .inv) more (w .0 .taken) (ltb-true (l .n) (length (l .out)) (w .1 .taken)) (ltb-true (l .n) (length (l .told)) (w .2 .taken))))
     (λ w.
     rw (w .1, w .2, w .3)
     (⊎-elim (λ x. full (x .0 .taken) (inr (ltb-false (l .n) (length (l .told)) (x .2 .left)))) (λ y. ⊎-elim (λ x. full (x .0 .taken) (inl (ltb-false (l .n) (length (l .out)) (x .1 .left)))) (λ x. pass (x .left)) y) (w .0 .came)))
@@ -95,7 +71,7 @@ returns c =
     let l = c .before .loop in
     let o = c .before .before in
     let a = o .args in
-    picked-done (a .ks .now) (a .moods .now) (a .out .now) (l .out) (a .told .now) (l .told) (l .n) (l .i) (l .inv) (o .pre) (c .loop-test .left)
+    picked-done (a .candidates .now) (a .moods .now) (a .out .now) (l .out) (a .told .now) (l .told) (l .n) (l .i) (l .inv) (o .pre) (c .loop-test .left)
 
 pub pick-spec : {M : Type 1} → statement M
 pick-spec =
@@ -104,19 +80,19 @@ pick-spec =
     Inv-loop
     μ-loop
     loop-holds
-    mul-if1
-    shared-slice-read-if1
-    mul-out
-    shared-slice-read-out
+    (λ c. omega arith)
+    (λ c. omega arith)
+    (λ c. omega arith)
+    (λ c. omega arith)
     mul-out-2
     slice-write-out
-    mul-told
-    shared-slice-read-told
+    (λ c. omega arith)
+    (λ c. omega arith)
     mul-told-2
     slice-write-told
     add-n
-    add-i
-    loop-less
+    (λ c. omega arith)
+    (λ c. omega arith)
     loop-again
     same-length
     same-length-2

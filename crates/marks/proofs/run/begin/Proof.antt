@@ -8,39 +8,18 @@ use Rattle.marks.proofs.run.begin.Statement.{statement}
 use Rattle.marks.proofs.run.begin.Tie as tie
 
 abbrev Inv-loop : tie.InvT-loop
-Inv-loop points statuses ks moods₀ i₀ moods i = Begun points statuses ks moods₀ moods i
+Inv-loop points statuses candidates moods₀ i₀ moods i = Begun points statuses candidates moods₀ moods i
 
 abbrev μ-loop : tie.MeasureT-loop
-μ-loop points statuses ks moods₀ i₀ moods i = length ks - i
+μ-loop points statuses candidates moods₀ i₀ moods i = length candidates - i
 
 loop-holds : tie.Need-loop-holds Inv-loop μ-loop
 loop-holds c =
     let o = c .before .before .before .before in
-    begun-none (o .args .points .now) (o .args .statuses .now) (o .args .ks .now) (o .args .moods .now) (o .pre .2)
-
-mul-begin-at : tie.Need-mul-begin-at Inv-loop μ-loop
-mul-begin-at c = omega arith
-
-shared-slice-read-begin-at : tie.Need-shared-slice-read-begin-at Inv-loop μ-loop
-shared-slice-read-begin-at c = omega arith
-
-begin-at-requires : tie.Need-begin-at-requires Inv-loop μ-loop
-begin-at-requires c κs = omega arith
+    begun-none (o .args .points .now) (o .args .statuses .now) (o .args .candidates .now) (o .args .moods .now) (o .pre .2)
 
 word-requires : tie.Need-word-requires Inv-loop μ-loop
 word-requires c κs = let r = c .begin-at .ensures in (r .0, r .1, omega (arith, r .2))
-
-mul-moods : tie.Need-mul-moods Inv-loop μ-loop
-mul-moods c = omega arith
-
-slice-write-moods : tie.Need-slice-write-moods Inv-loop μ-loop
-slice-write-moods c = omega arith
-
-add-i : tie.Need-add-i Inv-loop μ-loop
-add-i c = omega arith
-
-loop-less : tie.Need-loop-less Inv-loop μ-loop
-loop-less c = omega arith
 
 loop-again : tie.Need-loop-again Inv-loop μ-loop
 loop-again c =
@@ -48,8 +27,8 @@ loop-again c =
     let p = t .before in
     let l = p .loop in
     let a = p .before .before .before .before .before .args in
-    begun-more (a .points .now) (a .statuses .now) (a .ks .now) (a .moods .now) (l .moods) (l .i) (l .inv) (t .loop-test .taken) (c .word .result)
-    (λ ps e v o. c .word .ensures (begun ps (getD (a .ks .now) (l .i) 0)) (c .before .begin-at .ensures .3 ps e v o))
+    begun-more (a .points .now) (a .statuses .now) (a .candidates .now) (a .moods .now) (l .moods) (l .i) (l .inv) (t .loop-test .taken) (c .word .result)
+    (λ ps e v o. c .word .ensures (begun ps (getD (a .candidates .now) (l .i) 0)) (c .before .begin-at .ensures .3 ps e v o))
 
 same-length : tie.Need-same-length Inv-loop μ-loop
 same-length c = c .before .loop .inv .long
@@ -59,7 +38,7 @@ returns c =
     let p = c .before in
     let l = p .loop in
     let a = p .before .before .before .before .before .args in
-    begun-done (a .points .now) (a .statuses .now) (a .ks .now) (a .moods .now) (l .moods) (l .i) (l .inv) (c .loop-test .left)
+    begun-done (a .points .now) (a .statuses .now) (a .candidates .now) (a .moods .now) (l .moods) (l .i) (l .inv) (c .loop-test .left)
 
 pub begin-spec : {M : Type 1} → statement M
 begin-spec =
@@ -68,14 +47,14 @@ begin-spec =
     Inv-loop
     μ-loop
     loop-holds
-    mul-begin-at
-    shared-slice-read-begin-at
-    begin-at-requires
+    (λ c. omega arith)
+    (λ c. omega arith)
+    (λ c κs. omega arith)
     word-requires
-    mul-moods
-    slice-write-moods
-    add-i
-    loop-less
+    (λ c. omega arith)
+    (λ c. omega arith)
+    (λ c. omega arith)
+    (λ c. omega arith)
     loop-again
     same-length
     returns)

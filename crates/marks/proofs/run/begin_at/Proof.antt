@@ -9,30 +9,21 @@ use borrow.Author.Needs.{needs}
 use Rattle.marks.proofs.run.begin_at.Statement.{statement}
 use Rattle.marks.proofs.run.begin_at.Tie as tie
 
-place-requires : tie.Need-place-requires
-place-requires c κs = search needs
-
-stands-at-requires : tie.Need-stands-at-requires
-stands-at-requires c κs = search needs
-
-within : (c : tie.After-shared-slice-known3) → c .before .before .before .place .result < length (c .before .before .before .before .before .before .args .points .now)
-within c =
+inside : (c : tie.After-shared-slice-known3) → c .before .before .before .place .result < length (c .before .before .before .before .before .before .args .points .now)
+inside c =
     let p = c .before .before .before in
     let a = p .before .before .before .args in
     stands-inside (a .k) (p .place .result) (a .points .now) (sym (c .before .before .stands-at .ensures) ∙ c .before .if1 .taken)
 
 shared-slice-read-t7 : tie.Need-shared-slice-read-t7
-shared-slice-read-t7 c = omega (arith, within c)
-
-add-t10 : tie.Need-add-t10
-add-t10 c = search needs
+shared-slice-read-t7 c = omega (arith, inside c)
 
 returns : tie.Need-returns
 returns c =
     let p = c .before .before .before in
     let a = p .before .before .before .args in (
       omega arith,
-      omega (arith, within c),
+      omega (arith, inside c),
       refl,
       λ ps e v o. begun-there (a .points .now) (a .statuses .now) ps e v o (a .k) (p .place .result) (p .place .ensures .1) (sym (c .before .before .stands-at .ensures) ∙ c .before .if1 .taken),
     )
@@ -50,4 +41,4 @@ returns-2 c =
 pub begin-at-spec : {M : Type 1} → statement M
 begin-at-spec =
     tie.close
-    (tie.spec place-requires stands-at-requires shared-slice-read-t7 add-t10 returns returns-2)
+    (tie.spec (λ c κs. search needs) (λ c κs. search needs) shared-slice-read-t7 (λ c. search needs) returns returns-2)

@@ -1,4 +1,4 @@
--- `run::mark`: the word at the key's place is set, where the key stands there. Assumes nothing.
+-- `run::mark`: the word at the key's place is set, where the key is a candidate. Assumes nothing.
 use Prim.Native.Nat.{ℕ, _<_}
 use native.Mathlib.Omega.{arith}
 use mathlib.Core.Path.{_≡_, refl, sym, ap, _∙_}
@@ -15,29 +15,20 @@ use borrow.Author.Needs.{needs}
 use Rattle.marks.proofs.run.mark.Statement.{statement}
 use Rattle.marks.proofs.run.mark.Tie as tie
 
-place-requires : tie.Need-place-requires
-place-requires c κs = search needs
-
-stands-at-requires : tie.Need-stands-at-requires
-stands-at-requires c κs = search needs
-
-mul-of-word : tie.Need-mul-of-word
-mul-of-word c = search needs
-
 abbrev start : tie.Then1 → tie.Start
 start c = c .before .before .before .before .before
 
-seen : (c : tie.Then1) → stands (start c .args .k) (c .before .before .place .result) (start c .args .ks .now) ≡ true
+seen : (c : tie.Then1) → stands (start c .args .k) (c .before .before .place .result) (start c .args .candidates .now) ≡ true
 seen c = sym (c .before .stands-at .ensures) ∙ c .if1 .taken
 
-within : (c : tie.Then1) → c .before .before .place .result < length (start c .args .ks .now)
-within c = stands-inside (start c .args .k) (c .before .before .place .result) (start c .args .ks .now) (seen c)
+inside : (c : tie.Then1) → c .before .before .place .result < length (start c .args .candidates .now)
+inside c = stands-inside (start c .args .k) (c .before .before .place .result) (start c .args .candidates .now) (seen c)
 
 -- the word that is read
 abbrev Was : (c : tie.After-of-word) → Type 0
 Was c =
     let a = start (c .before .before) .args in
-    (f : ℕ → Standing) → ((x : ℕ) → Small (f x)) → a .moods .now ≡ words f (a .ks .now) → c .of-word .result ≡ mood (f (a .k))
+    (f : ℕ → Standing) → ((x : ℕ) → Small (f x)) → a .moods .now ≡ words f (a .candidates .now) → c .of-word .result ≡ mood (f (a .k))
 
 was : (c : tie.After-of-word) → Was c
 was c =
@@ -45,28 +36,16 @@ was c =
     let t = c .before .before in
     let a = start t .args in
     let at = t .before .before .place .result in
-    c .of-word .ensures .2 (f (a .k)) (s (a .k)) (ap (λ (l : List ℕ). getD l at 0) e ∙ stands-read f (a .k) at (a .ks .now) (seen t))
+    c .of-word .ensures .2 (f (a .k)) (s (a .k)) (ap (λ (l : List ℕ). getD l at 0) e ∙ stands-read f (a .k) at (a .candidates .now) (seen t))
 
 slice-read-of-word : tie.Need-slice-read-of-word
-slice-read-of-word c = omega (arith, within (c .before))
-
-of-word-requires : tie.Need-of-word-requires
-of-word-requires c κs = search needs
-
-marked-requires : tie.Need-marked-requires
-marked-requires c κs = search needs
+slice-read-of-word c = omega (arith, inside (c .before))
 
 word-requires : tie.Need-word-requires
 word-requires c κs = let r = c .marked .ensures in (r .0, r .1, r .2)
 
-mul-moods : tie.Need-mul-moods
-mul-moods c = search needs
-
 slice-write-moods : tie.Need-slice-write-moods
-slice-write-moods c = omega (arith, within (c .before .before .before .before .before .before))
-
-same-length : tie.Need-same-length
-same-length c = search needs
+slice-write-moods c = omega (arith, inside (c .before .before .before .before .before .before))
 
 returns : tie.Need-returns
 returns c =
@@ -77,7 +56,7 @@ returns c =
       length-set (a .moods .now) (p .result) (c .word .result),
       λ f o s e.
           let m = marked (a .n) (record { dir = dir (a .corner); at = a .k; on = a .on }) (f (a .k)) in
-          marked-word (a .n) (record { dir = dir (a .corner); at = a .k; on = a .on }) f (a .ks .now) (a .moods .now) (p .result) o (p .ensures .1 o) e (seen t) (c .word .result)
+          marked-word (a .n) (record { dir = dir (a .corner); at = a .k; on = a .on }) f (a .candidates .now) (a .moods .now) (p .result) o (p .ensures .1 o) e (seen t) (c .word .result)
           (c .word .ensures m (c .before .marked .ensures .3 (f (a .k)) (a .k) (was r f s e))),
     )
 
@@ -92,22 +71,22 @@ returns-3 c =
     let q = c .before .before in
     let a = q .before .before .before .args in
     let p = q .place in
-    (refl, λ f o s e. marked-none (a .n) (record { dir = dir (a .corner); at = a .k; on = a .on }) f (a .ks .now) (a .moods .now) (p .result) o (p .ensures .1 o) e (sym (c .before .stands-at .ensures) ∙ c .if1 .left))
+    (refl, λ f o s e. marked-none (a .n) (record { dir = dir (a .corner); at = a .k; on = a .on }) f (a .candidates .now) (a .moods .now) (p .result) o (p .ensures .1 o) e (sym (c .before .stands-at .ensures) ∙ c .if1 .left))
 
 pub mark-spec : {M : Type 1} → statement M
 mark-spec =
     tie.close
     (tie.spec
-    place-requires
-    stands-at-requires
-    mul-of-word
+    (λ c κs. search needs)
+    (λ c κs. search needs)
+    (λ c. search needs)
     slice-read-of-word
-    of-word-requires
-    marked-requires
+    (λ c κs. search needs)
+    (λ c κs. search needs)
     word-requires
-    mul-moods
+    (λ c. search needs)
     slice-write-moods
-    same-length
+    (λ c. search needs)
     returns
     returns-2
     returns-3)

@@ -7,36 +7,15 @@ use Rattle.marks.proofs.run.mark_all.Statement.{statement}
 use Rattle.marks.proofs.run.mark_all.Tie as tie
 
 abbrev Inv-loop : tie.InvT-loop
-Inv-loop ks moods₀ corners statuses s i₀ moods i = Made ks moods₀ moods corners statuses s i
+Inv-loop candidates moods₀ corners altered shift i₀ moods i = Made candidates moods₀ moods corners altered shift i
 
 abbrev μ-loop : tie.MeasureT-loop
-μ-loop ks moods₀ corners statuses s i₀ moods i = length corners - i
+μ-loop candidates moods₀ corners altered shift i₀ moods i = length corners - i
 
 loop-holds : tie.Need-loop-holds Inv-loop μ-loop
 loop-holds c =
     let a = c .before .before .before .before .args in
-    made-none (a .ks .now) (a .moods .now) (a .corners .now) (a .statuses .now) (a .s)
-
-mul-mark-corners : tie.Need-mul-mark-corners Inv-loop μ-loop
-mul-mark-corners c = omega arith
-
-shared-slice-read-mark-corners : tie.Need-shared-slice-read-mark-corners Inv-loop μ-loop
-shared-slice-read-mark-corners c = omega arith
-
-shared-slice-read-mark-corners-2 : tie.Need-shared-slice-read-mark-corners-2 Inv-loop μ-loop
-shared-slice-read-mark-corners-2 c = omega arith
-
-mul-mark-corners-2 : tie.Need-mul-mark-corners-2 Inv-loop μ-loop
-mul-mark-corners-2 c = omega arith
-
-mark-corners-requires : tie.Need-mark-corners-requires Inv-loop μ-loop
-mark-corners-requires c κs = omega arith
-
-add-i : tie.Need-add-i Inv-loop μ-loop
-add-i c = omega arith
-
-loop-less : tie.Need-loop-less Inv-loop μ-loop
-loop-less c = omega arith
+    made-none (a .candidates .now) (a .moods .now) (a .corners .now) (a .altered .now) (a .shift)
 
 loop-again : tie.Need-loop-again Inv-loop μ-loop
 loop-again c =
@@ -46,7 +25,7 @@ loop-again c =
     let l = p .loop in
     let o = p .before .before .before .before .before in
     let a = o .args in
-    made-more (a .ks .now) (a .moods .now) (l .moods) (a .corners .now) (a .statuses .now) (a .s) (l .i) (l .inv) (t .loop-test .taken) (o .pre .3) (r .last .1 .0) (r .kept .1 .0) (r .ensures .1)
+    made-more (a .candidates .now) (a .moods .now) (l .moods) (a .corners .now) (a .altered .now) (a .shift) (l .i) (l .inv) (t .loop-test .taken) (o .pre .3) (r .last .1 .0) (r .kept .1 .0) (r .ensures .1)
 
 same-length : tie.Need-same-length Inv-loop μ-loop
 same-length c = c .before .loop .inv .long
@@ -56,7 +35,7 @@ returns c =
     let p = c .before in
     let l = p .loop in
     let a = p .before .before .before .before .before .args in
-    (l .inv .long, made-done (a .ks .now) (a .moods .now) (l .moods) (a .corners .now) (a .statuses .now) (a .s) (l .i) (l .inv) (c .loop-test .left))
+    (l .inv .long, made-done (a .candidates .now) (a .moods .now) (l .moods) (a .corners .now) (a .altered .now) (a .shift) (l .i) (l .inv) (c .loop-test .left))
 
 pub mark-all-spec : {M : Type 1} → statement M
 mark-all-spec =
@@ -65,13 +44,13 @@ mark-all-spec =
     Inv-loop
     μ-loop
     loop-holds
-    mul-mark-corners
-    shared-slice-read-mark-corners
-    shared-slice-read-mark-corners-2
-    mul-mark-corners-2
-    mark-corners-requires
-    add-i
-    loop-less
+    (λ c. omega arith)
+    (λ c. omega arith)
+    (λ c. omega arith)
+    (λ c. omega arith)
+    (λ c κs. omega arith)
+    (λ c. omega arith)
+    (λ c. omega arith)
     loop-again
     same-length
     returns)

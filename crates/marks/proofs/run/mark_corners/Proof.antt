@@ -10,36 +10,15 @@ use Rattle.marks.proofs.run.mark_corners.Statement.{statement}
 use Rattle.marks.proofs.run.mark_corners.Tie as tie
 
 abbrev Inv-loop : tie.InvT-loop
-Inv-loop ks moods₀ k status s n bits d₀ moods d = Four ks moods₀ moods k status s n d
+Inv-loop candidates moods₀ k status shift n here d₀ moods d = Four candidates moods₀ moods k status shift n d
 
 abbrev μ-loop : tie.MeasureT-loop
-μ-loop ks moods₀ k status s n bits d₀ moods d = 4 - d
+μ-loop candidates moods₀ k status shift n here d₀ moods d = 4 - d
 
 loop-holds : tie.Need-loop-holds Inv-loop μ-loop
 loop-holds c =
     let a = c .before .before .args in
-    four-none (a .ks .now) (a .moods .now) (a .k) (a .status) (a .s) (a .n)
-
-corner-at-requires : tie.Need-corner-at-requires Inv-loop μ-loop
-corner-at-requires c κs = tt
-
-shifted-requires : tie.Need-shifted-requires Inv-loop μ-loop
-shifted-requires c κs = omega arith
-
-get-requires : tie.Need-get-requires Inv-loop μ-loop
-get-requires c κs = tt
-
-add-mark : tie.Need-add-mark Inv-loop μ-loop
-add-mark c = omega arith
-
-mark-requires : tie.Need-mark-requires Inv-loop μ-loop
-mark-requires c κs = omega arith
-
-add-d : tie.Need-add-d Inv-loop μ-loop
-add-d c = omega arith
-
-loop-less : tie.Need-loop-less Inv-loop μ-loop
-loop-less c = omega arith
+    four-none (a .candidates .now) (a .moods .now) (a .k) (a .status) (a .shift) (a .n)
 
 loop-again : tie.Need-loop-again Inv-loop μ-loop
 loop-again c =
@@ -51,7 +30,7 @@ loop-again c =
     let l = p .loop in
     let o = p .before .before .before in
     let a = o .args in
-    four-more (a .ks .now) (a .moods .now) (l .moods) (a .k) (a .status) (a .s) (a .n) (l .d) (l .inv) (k .before .loop-test .taken) (o .pre .2) (dir (k .corner-at .result)) (k .corner-at .ensures) (h .shifted .result) (h .shifted .ensures) (g .get .result)
+    four-more (a .candidates .now) (a .moods .now) (l .moods) (a .k) (a .status) (a .shift) (a .n) (l .d) (l .inv) (k .before .loop-test .taken) (o .pre .2) (dir (k .corner-at .result)) (k .corner-at .ensures) (h .shifted .result) (h .shifted .ensures) (g .get .result)
     (λ b e. g .get .ensures b e ∙ ap (λ (d : Dir). bit d b) (k .corner-at .ensures)) (r .last .1 .0) (r .kept .1 .0) (r .ensures .1)
 
 same-length : tie.Need-same-length Inv-loop μ-loop
@@ -62,7 +41,7 @@ returns c =
     let p = c .before in
     let l = p .loop in
     let a = p .before .before .before .args in
-    (l .inv .long, four-done (a .ks .now) (a .moods .now) (l .moods) (a .k) (a .status) (a .s) (a .n) (l .d) (l .inv) (c .loop-test .left))
+    (l .inv .long, four-done (a .candidates .now) (a .moods .now) (l .moods) (a .k) (a .status) (a .shift) (a .n) (l .d) (l .inv) (c .loop-test .left))
 
 pub mark-corners-spec : {M : Type 1} → statement M
 mark-corners-spec =
@@ -71,13 +50,13 @@ mark-corners-spec =
     Inv-loop
     μ-loop
     loop-holds
-    corner-at-requires
-    shifted-requires
-    get-requires
-    add-mark
-    mark-requires
-    add-d
-    loop-less
+    (λ c κs. tt)
+    (λ c κs. omega arith)
+    (λ c κs. tt)
+    (λ c. omega arith)
+    (λ c κs. omega arith)
+    (λ c. omega arith)
+    (λ c. omega arith)
     loop-again
     same-length
     returns)

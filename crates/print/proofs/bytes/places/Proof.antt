@@ -14,14 +14,8 @@ Inv-loop n k₀ rest₀ k rest = length (decimal n) + 1 ≡ k + length (decimal 
 abbrev μ-loop : tie.MeasureT-loop
 μ-loop n k₀ rest₀ k rest = rest
 
-loop-holds : tie.Need-loop-holds Inv-loop μ-loop
-loop-holds c = omega arith
-
 add-k : tie.Need-add-k Inv-loop μ-loop
 add-k c = omega (arith, length-most 19 (c .before .before .args .n) (omega arith), length-some (c .before .loop .rest))
-
-loop-less : tie.Need-loop-less Inv-loop μ-loop
-loop-less c = omega arith
 
 loop-again : tie.Need-loop-again Inv-loop μ-loop
 loop-again c = omega (arith, length-more (c .before .loop .rest) (omega arith))
@@ -30,4 +24,4 @@ returns : tie.Need-returns Inv-loop μ-loop
 returns c = omega (arith, length-one (c .before .loop .rest) (omega arith))
 
 pub places-spec : {M : Type 1} → statement M
-places-spec = tie.close (tie.spec Inv-loop μ-loop loop-holds add-k loop-less loop-again returns)
+places-spec = tie.close (tie.spec Inv-loop μ-loop (λ c. omega arith) add-k (λ c. omega arith) loop-again returns)

@@ -6,14 +6,8 @@ use Rattle.print.proofs.PutLaws.{put-then}
 use Rattle.print.proofs.bytes.put_labelled.Statement.{statement}
 use Rattle.print.proofs.bytes.put_labelled.Tie as tie
 
-put-text-requires : tie.Need-put-text-requires
-put-text-requires c κs = search needs
-
 put-number-requires : tie.Need-put-number-requires
 put-number-requires c κs = room-for 19 _ _ _ (omega arith) (search needs)
-
-same-length : tie.Need-same-length
-same-length c = search needs
 
 returns : tie.Need-returns
 returns c =
@@ -23,4 +17,4 @@ returns c =
     (put-then (label .put-text .ensures) (omega (arith, start .pre)) (number .put-number .ensures .0), omega (arith, start .pre, label .put-text .ensures .end, number .put-number .ensures .1))
 
 pub put-labelled-spec : {M : Type 1} → statement M
-put-labelled-spec = tie.close (tie.spec put-text-requires put-number-requires same-length returns)
+put-labelled-spec = tie.close (tie.spec (λ c κs. search needs) put-number-requires (λ c. search needs) returns)

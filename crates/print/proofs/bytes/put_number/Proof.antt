@@ -15,12 +15,6 @@ Inv-loop out₀ at n end i₀ rest₀ out i rest = Numbering n at end out₀ out
 abbrev μ-loop : tie.MeasureT-loop
 μ-loop out₀ at n end i₀ rest₀ out i rest = rest
 
-places-requires : tie.Need-places-requires Inv-loop μ-loop
-places-requires c κs = search needs
-
-add-end : tie.Need-add-end Inv-loop μ-loop
-add-end c = omega arith
-
 sub-i : tie.Need-sub-i Inv-loop μ-loop
 sub-i c = omega (arith, length-some (c .before .before .args .n))
 
@@ -31,35 +25,17 @@ loop-holds c =
     let s = length-some (a .n) in
     numbering-none (a .n) (a .at) _ _ (a .out .now) (omega arith) (omega arith) (c .before .before .pre)
 
-cast-out : tie.Need-cast-out Inv-loop μ-loop
-cast-out c = omega arith
-
-add-out : tie.Need-add-out Inv-loop μ-loop
-add-out c = omega arith
-
 slice-write-out : tie.Need-slice-write-out Inv-loop μ-loop
 slice-write-out c = numbering-place (c .before .loop .inv)
 
 sub-i-2 : tie.Need-sub-i-2 Inv-loop μ-loop
 sub-i-2 c = numbering-next (c .before .loop .inv) (c .loop-test .taken)
 
-loop-less : tie.Need-loop-less Inv-loop μ-loop
-loop-less c = omega arith
-
 loop-again : tie.Need-loop-again Inv-loop μ-loop
 loop-again c = numbering-more (c .before .loop .inv) (c .loop-test .taken)
 
-cast-out-2 : tie.Need-cast-out-2 Inv-loop μ-loop
-cast-out-2 c = omega arith
-
-add-out-2 : tie.Need-add-out-2 Inv-loop μ-loop
-add-out-2 c = omega arith
-
 slice-write-out-2 : tie.Need-slice-write-out-2 Inv-loop μ-loop
 slice-write-out-2 c = numbering-place (c .before .loop .inv)
-
-same-length : tie.Need-same-length Inv-loop μ-loop
-same-length c = let l = c .before .loop in length-set (l .out) (l .i) _ ∙ l .inv .long
 
 returns : tie.Need-returns Inv-loop μ-loop
 returns c =
@@ -74,18 +50,18 @@ put-number-spec =
     (tie.spec
     Inv-loop
     μ-loop
-    places-requires
-    add-end
+    (λ c κs. search needs)
+    (λ c. omega arith)
     sub-i
     loop-holds
-    cast-out
-    add-out
+    (λ c. omega arith)
+    (λ c. omega arith)
     slice-write-out
     sub-i-2
-    loop-less
+    (λ c. omega arith)
     loop-again
-    cast-out-2
-    add-out-2
+    (λ c. omega arith)
+    (λ c. omega arith)
     slice-write-out-2
-    same-length
+    (λ c. let l = c .before .loop in length-set (l .out) (l .i) _ ∙ l .inv .long)
     returns)

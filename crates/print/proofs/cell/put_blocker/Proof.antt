@@ -5,23 +5,11 @@ use Rattle.print.proofs.CellLaws.{put-no-blocker, put-a-blocker}
 use Rattle.print.proofs.cell.put_blocker.Statement.{statement}
 use Rattle.print.proofs.cell.put_blocker.Tie as tie
 
-put-byte-requires : tie.Need-put-byte-requires
-put-byte-requires c κs = search needs
-
-same-length : tie.Need-same-length
-same-length c = search needs
-
 returns : tie.Need-returns
 returns c =
     let byte = c .before .before in
     let test = byte .before .before in
     (put-no-blocker (test .before .before .args .code) (test .if1 .taken) (byte .put-byte .ensures), omega (arith, byte .put-byte .ensures .end))
-
-put-cell-requires : tie.Need-put-cell-requires
-put-cell-requires c κs = search needs
-
-same-length-2 : tie.Need-same-length-2
-same-length-2 c = search needs
 
 returns-2 : tie.Need-returns-2
 returns-2 c =
@@ -32,4 +20,4 @@ returns-2 c =
 pub put-blocker-spec : {M : Type 1} → statement M
 put-blocker-spec =
     tie.close
-    (tie.spec put-byte-requires same-length returns put-cell-requires same-length-2 returns-2)
+    (tie.spec (λ c κs. search needs) (λ c. search needs) returns (λ c κs. search needs) (λ c. search needs) returns-2)

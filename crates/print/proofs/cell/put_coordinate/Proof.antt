@@ -7,17 +7,8 @@ use Rattle.print.proofs.DecimalLaws.{length-most, room-for}
 use Rattle.print.proofs.cell.put_coordinate.Statement.{statement}
 use Rattle.print.proofs.cell.put_coordinate.Tie as tie
 
-put-byte-requires : tie.Need-put-byte-requires
-put-byte-requires c κs = search needs
-
-sub-put-number : tie.Need-sub-put-number
-sub-put-number c = search needs
-
 put-number-requires : tie.Need-put-number-requires
 put-number-requires c κs = room-for 9 _ _ _ (omega arith) (search needs)
-
-same-length : tie.Need-same-length
-same-length c = search needs
 
 returns : tie.Need-returns
 returns c =
@@ -32,9 +23,6 @@ returns c =
 put-number-requires-2 : tie.Need-put-number-requires-2
 put-number-requires-2 c κs = room-for 9 _ _ _ (omega arith) (search needs)
 
-same-length-2 : tie.Need-same-length-2
-same-length-2 c = search needs
-
 returns-2 : tie.Need-returns-2
 returns-2 c =
     let number = c .before .before in
@@ -48,11 +36,11 @@ pub put-coordinate-spec : {M : Type 1} → statement M
 put-coordinate-spec =
     tie.close
     (tie.spec
-    put-byte-requires
-    sub-put-number
+    (λ c κs. search needs)
+    (λ c. search needs)
     put-number-requires
-    same-length
+    (λ c. search needs)
     returns
     put-number-requires-2
-    same-length-2
+    (λ c. search needs)
     returns-2)

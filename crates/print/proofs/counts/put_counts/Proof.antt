@@ -1,7 +1,8 @@
 -- `counts::put_counts`: count by count. Assumes nothing.
 use Prim.Native.Nat.{zero-le}
 use native.Mathlib.Omega.{arith}
-use mathlib.Core.Path.{refl, _∙_}
+use mathlib.Core.Path.{_≡_, refl, _∙_}
+use lib.ListN.{length}
 use borrow.Author.Needs.{needs}
 use borrow.Author.Tests.{le-leb, lt-leb}
 use Rattle.model.specs.Listing.{decimal, text}
@@ -10,118 +11,79 @@ use Rattle.print.proofs.PutLaws.{put-both, put-then}
 use Rattle.print.proofs.counts.put_counts.Statement.{statement}
 use Rattle.print.proofs.counts.put_counts.Tie as tie
 
+-- the calls before the last label's
+abbrev opens : tie.After-put-labelled6 → tie.After-put-labelled5
+opens p = p .before .before .before .before .before
+
+abbrev edges : tie.After-put-labelled6 → tie.After-put-labelled4
+edges p = opens p .before .before .before .before .before
+
+abbrev points : tie.After-put-labelled6 → tie.After-put-labelled3
+points p = edges p .before .before .before .before .before
+
+abbrev corners : tie.After-put-labelled6 → tie.After-put-labelled2
+corners p = points p .before .before .before .before .before
+
+abbrev cells : tie.After-put-labelled6 → tie.After-put-labelled
+cells p = corners p .before .before .before .before .before
+
+abbrev test : tie.After-put-labelled6 → tie.Else1
+test p = cells p .before .before .before
+
+-- the buffer is as long as it was
+same : (p : tie.After-put-labelled6) → length (p .put-labelled6 .last .0) ≡ length (test p .before .before .args .out .now)
+same p =
+    p .put-labelled6 .kept .0 ∙ opens p .put-labelled5 .kept .0 ∙ edges p .put-labelled4 .kept .0 ∙ points p .put-labelled3 .kept .0 ∙ corners p .put-labelled2 .kept .0 ∙ cells p .put-labelled .kept .0
+
 returns : tie.Need-returns
 returns c = printed-not (lt-leb _ _ (c .if1 .taken)) refl refl
 
-slice-aggregate-put-labelled : tie.Need-slice-aggregate-put-labelled
-slice-aggregate-put-labelled c = search needs
-
-put-labelled-requires : tie.Need-put-labelled-requires
-put-labelled-requires c κs = search needs
-
-slice-aggregate-put-labelled-2 : tie.Need-slice-aggregate-put-labelled-2
-slice-aggregate-put-labelled-2 c = search needs
-
-put-labelled-requires-2 : tie.Need-put-labelled-requires-2
-put-labelled-requires-2 c κs = search needs
-
-slice-aggregate-put-labelled-3 : tie.Need-slice-aggregate-put-labelled-3
-slice-aggregate-put-labelled-3 c = search needs
-
-put-labelled-requires-3 : tie.Need-put-labelled-requires-3
-put-labelled-requires-3 c κs = search needs
-
-slice-aggregate-put-labelled-4 : tie.Need-slice-aggregate-put-labelled-4
-slice-aggregate-put-labelled-4 c = search needs
-
-put-labelled-requires-4 : tie.Need-put-labelled-requires-4
-put-labelled-requires-4 c κs = search needs
-
-slice-aggregate-put-labelled-5 : tie.Need-slice-aggregate-put-labelled-5
-slice-aggregate-put-labelled-5 c = search needs
-
-put-labelled-requires-5 : tie.Need-put-labelled-requires-5
-put-labelled-requires-5 c κs = search needs
-
-slice-aggregate-put-labelled-6 : tie.Need-slice-aggregate-put-labelled-6
-slice-aggregate-put-labelled-6 c = search needs
-
-put-labelled-requires-6 : tie.Need-put-labelled-requires-6
-put-labelled-requires-6 c κs = search needs
-
 put-byte-requires : tie.Need-put-byte-requires
 put-byte-requires c κs =
-    let blocks = c .before .before .before in
-    let free = blocks .before .before .before .before .before in
-    let edges = free .before .before .before .before .before in
-    let points = edges .before .before .before .before .before in
-    let corners = points .before .before .before .before .before in
-    let cells = corners .before .before .before .before .before in
-    let test = cells .before .before .before in
-    let l₁ = cells .put-labelled .kept .0 in
-    let l₂ = corners .put-labelled2 .kept .0 in
-    let l₃ = points .put-labelled3 .kept .0 in
-    let l₄ = edges .put-labelled4 .kept .0 in
-    let l₅ = free .put-labelled5 .kept .0 in
-    let l₆ = blocks .put-labelled6 .kept .0 in
-    omega (arith, test .if1 .left, l₁, l₂, l₃, l₄, l₅, l₆, cells .put-labelled .ensures .1, corners .put-labelled2 .ensures .1, points .put-labelled3 .ensures .1, edges .put-labelled4 .ensures .1, free .put-labelled5 .ensures .1, blocks .put-labelled6 .ensures .1)
+    let p = c .before .before .before in
+    omega (arith, test p .if1 .left, same p, cells p .put-labelled .ensures .1, corners p .put-labelled2 .ensures .1, points p .put-labelled3 .ensures .1, edges p .put-labelled4 .ensures .1, opens p .put-labelled5 .ensures .1, p .put-labelled6 .ensures .1)
 
 same-length : tie.Need-same-length
-same-length c =
-    let line = c .before .before in
-    let blocks = line .before .before .before .before in
-    let free = blocks .before .before .before .before .before in
-    let edges = free .before .before .before .before .before in
-    let points = edges .before .before .before .before .before in
-    let corners = points .before .before .before .before .before in
-    let cells = corners .before .before .before .before .before in
-    line .put-byte .kept .0 ∙ blocks .put-labelled6 .kept .0 ∙ free .put-labelled5 .kept .0 ∙ edges .put-labelled4 .kept .0 ∙ points .put-labelled3 .kept .0 ∙ corners .put-labelled2 .kept .0
-    ∙ cells .put-labelled .kept .0
+same-length c = let line = c .before .before in line .put-byte .kept .0 ∙ same (line .before .before .before .before)
 
 returns-2 : tie.Need-returns-2
 unfolding text
 returns-2 c =
     let line = c .before .before in
-    let blocks = line .before .before .before .before in
-    let free = blocks .before .before .before .before .before in
-    let edges = free .before .before .before .before .before in
-    let points = edges .before .before .before .before .before in
-    let corners = points .before .before .before .before .before in
-    let cells = corners .before .before .before .before .before in
-    let test = cells .before .before .before in
-    let n = test .before .before .args .counts in
-    let p₁ = cells .put-labelled .ensures in
-    let p₂ = corners .put-labelled2 .ensures in
-    let p₃ = points .put-labelled3 .ensures in
-    let p₄ = edges .put-labelled4 .ensures in
-    let p₅ = free .put-labelled5 .ensures in
-    let p₆ = blocks .put-labelled6 .ensures in
+    let p = line .before .before .before .before in
+    let n = test p .before .before .args .counts in
+    let p₁ = cells p .put-labelled .ensures in
+    let p₂ = corners p .put-labelled2 .ensures in
+    let p₃ = points p .put-labelled3 .ensures in
+    let p₄ = edges p .put-labelled4 .ensures in
+    let p₅ = opens p .put-labelled5 .ensures in
+    let p₆ = p .put-labelled6 .ensures in
     let p₇ = line .put-byte .ensures in
     let q₂ = put-both (p₁ .0) zero-le (text " corners ") (decimal (n .corners)) (p₂ .0) in
     let q₃ = put-both q₂ zero-le (text " points ") (decimal (n .points)) (p₃ .0) in
     let q₄ = put-both q₃ zero-le (text " edges ") (decimal (n .edges)) (p₄ .0) in
     let q₅ = put-both q₄ zero-le (text " open ") (decimal (n .«open»)) (p₅ .0) in
     let q₆ = put-both q₅ zero-le (text " blocks ") (decimal (n .blocks)) (p₆ .0) in
-    let p = put-then q₆ zero-le p₇ in
-    printed-done (le-leb _ _ (test .if1 .left)) p (omega (arith, p .end, p₁ .1, p₂ .1, p₃ .1, p₄ .1, p₅ .1, p₆ .1, p₇ .end))
+    let q = put-then q₆ zero-le p₇ in
+    printed-done (le-leb _ _ (test p .if1 .left)) q (omega (arith, q .end, p₁ .1, p₂ .1, p₃ .1, p₄ .1, p₅ .1, p₆ .1, p₇ .end))
 
 pub put-counts-spec : {M : Type 1} → statement M
 put-counts-spec =
     tie.close
     (tie.spec
     returns
-    slice-aggregate-put-labelled
-    put-labelled-requires
-    slice-aggregate-put-labelled-2
-    put-labelled-requires-2
-    slice-aggregate-put-labelled-3
-    put-labelled-requires-3
-    slice-aggregate-put-labelled-4
-    put-labelled-requires-4
-    slice-aggregate-put-labelled-5
-    put-labelled-requires-5
-    slice-aggregate-put-labelled-6
-    put-labelled-requires-6
+    (λ c. search needs)
+    (λ c κs. search needs)
+    (λ c. search needs)
+    (λ c κs. search needs)
+    (λ c. search needs)
+    (λ c κs. search needs)
+    (λ c. search needs)
+    (λ c κs. search needs)
+    (λ c. search needs)
+    (λ c κs. search needs)
+    (λ c. search needs)
+    (λ c κs. search needs)
     put-byte-requires
     same-length
     returns-2)

@@ -1,87 +1,40 @@
 -- `points::put_points`: line by line. Assumes nothing.
-use Prim.Native.Nat.{ℕ, _-_}
+use Prim.Native.Nat.{_-_}
 use native.Mathlib.Omega.{arith}
-use mathlib.Core.Path.{sym, _∙_}
-use mathlib.Core.List.{List}
+use mathlib.Core.Path.{refl, sym, _∙_}
 use borrow.Author.Needs.{needs}
-use borrow.Author.Tests.{leb-true, not-false}
-use Rattle.model.specs.Listing.{pointLine}
-use Rattle.print.specs.Printed.{blockOf}
-use Rattle.print.proofs.PrintLaws.{lacks-lines, lacks-second, lacks-third}
+use borrow.Author.Tests.{not-true}
+use Rattle.print.specs.Printed.{pointRow}
+use Rattle.print.proofs.PrintLaws.{printed-not}
 use Rattle.print.proofs.RowLaws.{Writing, writing-none, writing-room, writing-more, writing-done}
 use Rattle.print.proofs.points.put_points.Statement.{statement}
 use Rattle.print.proofs.points.put_points.Tie as tie
 
-abbrev line : ℕ → ℕ → ℕ → List ℕ
-line k s b = pointLine k s (blockOf b)
-
 abbrev Inv-loop : tie.InvT-loop
-Inv-loop out₀ at keys statuses blocks n end₀ i₀ out end i = Writing line keys statuses blocks out₀ out at end i
+Inv-loop out₀ at keys statuses blocks n end₀ i₀ out end i = Writing pointRow keys statuses blocks out₀ out at end i
 
 abbrev μ-loop : tie.MeasureT-loop
 μ-loop out₀ at keys statuses blocks n end₀ i₀ out end i = n - i
 
-lacks-room-requires : tie.Need-lacks-room-requires Inv-loop μ-loop
-lacks-room-requires c κs = search needs
-
 returns : tie.Need-returns Inv-loop μ-loop
-returns c =
-    let a = c .before .before .before .before .before .before .args in
-    lacks-lines (a .keys .now) (a .statuses .now) (a .blocks .now) (a .out .now) (a .at) (sym (c .before .lacks-room .ensures) ∙ c .if1 .taken)
-
-returns-2 : tie.Need-returns-2 Inv-loop μ-loop
-returns-2 c =
-    let a = c .before .before .before .before .before .before .before .args in
-    lacks-second (a .keys .now) (a .statuses .now) (a .blocks .now) (a .out .now) (a .at) (c .if2 .taken)
-
-returns-3 : tie.Need-returns-3 Inv-loop μ-loop
-returns-3 c =
-    let a = c .before .before .before .before .before .before .before .before .args in
-    lacks-third (a .keys .now) (a .statuses .now) (a .blocks .now) (a .out .now) (a .at) (c .if3 .taken)
+returns c = printed-not (not-true _ (sym (c .before .lacks-room .ensures) ∙ c .if1 .taken)) refl refl
 
 loop-holds : tie.Need-loop-holds Inv-loop μ-loop
 loop-holds c =
-    let test = c .before .before in
-    let call = test .before in
-    let a = call .before .before .before .before .before .args in
-    writing-none line (a .keys .now) (a .statuses .now) (a .blocks .now) (a .out .now) (a .at) (c .before .if2 .left) (c .if3 .left)
-    (leb-true _ _ (not-false _ (sym (call .lacks-room .ensures) ∙ test .if1 .left)))
-
-mul-put-point : tie.Need-mul-put-point Inv-loop μ-loop
-mul-put-point c = omega arith
-
-shared-slice-read-put-point : tie.Need-shared-slice-read-put-point Inv-loop μ-loop
-shared-slice-read-put-point c = omega arith
-
-shared-slice-read-put-point-2 : tie.Need-shared-slice-read-put-point-2 Inv-loop μ-loop
-shared-slice-read-put-point-2 c = omega arith
-
-mul-put-point-2 : tie.Need-mul-put-point-2 Inv-loop μ-loop
-mul-put-point-2 c = omega arith
-
-shared-slice-read-put-point-3 : tie.Need-shared-slice-read-put-point-3 Inv-loop μ-loop
-shared-slice-read-put-point-3 c = omega arith
+    let a = c .before .before .before .before .before .before .args in
+    writing-none pointRow (a .keys .now) (a .statuses .now) (a .blocks .now) (a .out .now) (a .at) (sym (c .before .lacks-room .ensures) ∙ c .if1 .left)
 
 put-point-requires : tie.Need-put-point-requires Inv-loop μ-loop
-put-point-requires c κs = let s = c .before .before .before .before in writing-room line (s .before .loop .inv) (s .loop-test .taken)
-
-add-i : tie.Need-add-i Inv-loop μ-loop
-add-i c = omega arith
-
-loop-less : tie.Need-loop-less Inv-loop μ-loop
-loop-less c = omega arith
+put-point-requires c κs = let s = c .before .before .before .before in writing-room pointRow (s .before .loop .inv) (s .loop-test .taken)
 
 loop-again : tie.Need-loop-again Inv-loop μ-loop
 loop-again c =
     let call = c .before .before in
     let s = call .before .before .before .before .before in
-    writing-more line (s .before .loop .inv) (s .loop-test .taken) (call .put-point .ensures .0) (call .put-point .ensures .1)
+    writing-more pointRow (s .before .loop .inv) (s .loop-test .taken) (call .put-point .ensures .0) (call .put-point .ensures .1)
 
-same-length : tie.Need-same-length Inv-loop μ-loop
-same-length c = c .before .loop .inv .long
-
-returns-4 : tie.Need-returns-4 Inv-loop μ-loop
-returns-4 c = writing-done line (c .before .loop .inv) (c .loop-test .left)
+returns-2 : tie.Need-returns-2 Inv-loop μ-loop
+returns-2 c = writing-done pointRow (c .before .loop .inv) (c .loop-test .left)
 
 pub put-points-spec : {M : Type 1} → statement M
 put-points-spec =
@@ -89,19 +42,17 @@ put-points-spec =
     (tie.spec
     Inv-loop
     μ-loop
-    lacks-room-requires
+    (λ c κs. search needs)
     returns
-    returns-2
-    returns-3
     loop-holds
-    mul-put-point
-    shared-slice-read-put-point
-    shared-slice-read-put-point-2
-    mul-put-point-2
-    shared-slice-read-put-point-3
+    (λ c. omega arith)
+    (λ c. omega arith)
+    (λ c. omega arith)
+    (λ c. omega arith)
+    (λ c. omega arith)
     put-point-requires
-    add-i
-    loop-less
+    (λ c. omega arith)
+    (λ c. omega arith)
     loop-again
-    same-length
-    returns-4)
+    (λ c. c .before .loop .inv .long)
+    returns-2)

@@ -13,24 +13,6 @@ use Rattle.print.proofs.refusal.put_refusal.Tie as tie
 returns : tie.Need-returns
 returns c = printed-not (lt-leb _ _ (c .if1 .taken)) refl refl
 
-slice-aggregate-put-labelled : tie.Need-slice-aggregate-put-labelled
-slice-aggregate-put-labelled c = search needs
-
-put-labelled-requires : tie.Need-put-labelled-requires
-put-labelled-requires c κs = search needs
-
-slice-aggregate-put-labelled-2 : tie.Need-slice-aggregate-put-labelled-2
-slice-aggregate-put-labelled-2 c = search needs
-
-put-labelled-requires-2 : tie.Need-put-labelled-requires-2
-put-labelled-requires-2 c κs = search needs
-
-put-byte-requires : tie.Need-put-byte-requires
-put-byte-requires c κs = search needs
-
-same-length : tie.Need-same-length
-same-length c = search needs
-
 returns-2 : tie.Need-returns-2
 unfolding refusedLine text
 returns-2 c =
@@ -49,10 +31,10 @@ put-refusal-spec =
     tie.close
     (tie.spec
     returns
-    slice-aggregate-put-labelled
-    put-labelled-requires
-    slice-aggregate-put-labelled-2
-    put-labelled-requires-2
-    put-byte-requires
-    same-length
+    (λ c. search needs)
+    (λ c κs. search needs)
+    (λ c. search needs)
+    (λ c κs. search needs)
+    (λ c κs. search needs)
+    (λ c. search needs)
     returns-2)

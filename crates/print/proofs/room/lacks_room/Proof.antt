@@ -1,17 +1,21 @@
--- `room::lacks_room`: places left over, in lines. Assumes nothing.
-use native.Mathlib.Omega.{arith}
-use Prim.Native.Nat.{_+_, _*_}
-use borrow.Author.Tests.{lt-leb}
-use Rattle.print.specs.Printed.{lineRoom}
-use Rattle.print.proofs.PrintLaws.{fits-test}
+-- `room::lacks_room`: one test after another. Assumes nothing.
+use Rattle.print.proofs.PrintLaws.{lacks-place, lacks-rest, lacks-second, lacks-third}
 use Rattle.print.proofs.room.lacks_room.Statement.{statement}
 use Rattle.print.proofs.room.lacks_room.Tie as tie
 
 returns : tie.Need-returns
-returns c = let a = c .before .args in rw (lt-leb (a .at + lineRoom * a .n) (a .length) (omega arith))
+returns c = let a = c .before .args in lacks-second (a .n) (a .second) (a .third) (a .at) (a .length) (c .if1 .taken)
 
 returns-2 : tie.Need-returns-2
-returns-2 c = let a = c .before .args in fits-test (a .length) (a .at) (a .n) (c .if1 .left)
+returns-2 c = let a = c .before .before .args in lacks-third (a .n) (a .second) (a .third) (a .at) (a .length) (c .if2 .taken)
+
+returns-3 : tie.Need-returns-3
+returns-3 c = let a = c .before .before .before .args in lacks-place (a .n) (a .second) (a .third) (a .at) (a .length) (c .if3 .taken)
+
+returns-4 : tie.Need-returns-4
+returns-4 c =
+    let a = c .before .before .before .args in
+    lacks-rest (a .n) (a .second) (a .third) (a .at) (a .length) (c .before .before .if1 .left) (c .before .if2 .left) (c .if3 .left)
 
 pub lacks-room-spec : {M : Type 1} → statement M
-lacks-room-spec = tie.close (tie.spec returns returns-2)
+lacks-room-spec = tie.close (tie.spec returns returns-2 returns-3 returns-4)

@@ -18,9 +18,6 @@ slice-aggregate-count-blocks c =
     let r = s .pre in
     sym (length-take-le (s .args .map .cells) (s .args .cells .now) (omega (arith, r .0, r .1)))
 
-count-blocks-requires : tie.Need-count-blocks-requires
-count-blocks-requires c κs = tt
-
 returns : tie.Need-returns
 returns c M h e =
     let q = c .before .before in
@@ -31,4 +28,4 @@ returns c M h e =
     (p .count-corners .ensures M (h .0, h .1, t .0) e) (q .count-open .ensures M (h .0, h .1, (t .1, t .2, t .3)) e) (c .count-blocks .ensures .1)
 
 pub count-all-spec : {M : Type 1} → statement M
-count-all-spec = tie.close (tie.spec count-corners-requires count-open-requires slice-aggregate-count-blocks count-blocks-requires returns)
+count-all-spec = tie.close (tie.spec count-corners-requires count-open-requires slice-aggregate-count-blocks (λ c κs. tt) returns)

@@ -4,27 +4,19 @@ use native.Mathlib.Nat.{le-refl}
 use mathlib.Core.Path.{_∙_}
 use Rattle.corner.specs.Changes.{numbered}
 use Rattle.corner.proofs.ChangeLaws.{numbered-count}
+use Rattle.model.specs.Limits.{needCells}
 use Rattle.model.specs.Answers.{corners}
 use Rattle.table.proofs.ListedLaws.{keys-length}
 use Rattle.report.proofs.CallLaws.{call-accepted}
 use Rattle.report.proofs.counts.count_corners.Statement.{statement}
 use Rattle.report.proofs.counts.count_corners.Tie as tie
 
-slice-aggregate-corner-cells : tie.Need-slice-aggregate-corner-cells
-slice-aggregate-corner-cells c = search needs
-
-slice-aggregate-corner-cells-2 : tie.Need-slice-aggregate-corner-cells-2
-slice-aggregate-corner-cells-2 c = search needs
-
-corner-cells-requires : tie.Need-corner-cells-requires
-corner-cells-requires c κs = tt
-
 returns : tie.Need-returns
 returns c M h e =
     let p = c .before .before in
     let s = p .before .before .before .before in
-    let w = p .corner-cells .ensures .answer M h (call-accepted _ (s .args .map) e (s .pre, (le-refl 1024, (le-refl 1024, tt)))) in
+    let w = p .corner-cells .ensures .answer M h (call-accepted _ (s .args .map) e (s .pre, (le-refl needCells, (le-refl needCells, tt)))) in
     w .0 ∙ keys-length (numbered (corners M)) ∙ numbered-count (corners M)
 
 pub count-corners-spec : {M : Type 1} → statement M
-count-corners-spec = tie.close (tie.spec slice-aggregate-corner-cells slice-aggregate-corner-cells-2 corner-cells-requires returns)
+count-corners-spec = tie.close (tie.spec (λ c. search needs) (λ c. search needs) (λ c κs. tt) returns)

@@ -6,18 +6,15 @@ use mathlib.Core.List.{List}
 use lib.ListN.{drop, length}
 use Rattle.table.proofs.Parts.{tail-is}
 use Rattle.mapfile.specs.Reads.{FieldRead}
-use Rattle.held.specs.Holds.{Tables}
+use Rattle.held.specs.Holds.{Tables, tablesOf}
 use Rattle.report.proofs.FileLaws.{ReadTo, more-within, read-done, read-more, read-none, read-refused}
 use Rattle.held.proofs.RoomLaws.{SameLong, same-both, same-none}
 use Rattle.report.proofs.file.read_file.Statement.{statement}
 use Rattle.report.proofs.file.read_file.Tie as tie
 
-abbrev tables : List ℕ → List ℕ → List ℕ → List ℕ → List ℕ → Tables
-tables cells points statuses blockers pairs = record { cells = cells; points = points; statuses = statuses; blockers = blockers; pairs = pairs }
-
 abbrev Inv-loop : tie.InvT-loop
 Inv-loop bytes cells₀ points₀ statuses₀ blockers₀ pairs₀ reader₀ at₀ cells points statuses blockers pairs reader at =
-    ReadTo bytes (tables cells points statuses blockers pairs) reader at × SameLong (tables cells₀ points₀ statuses₀ blockers₀ pairs₀) (tables cells points statuses blockers pairs)
+    ReadTo bytes (tablesOf cells points statuses blockers pairs) reader at × SameLong (tablesOf cells₀ points₀ statuses₀ blockers₀ pairs₀) (tablesOf cells points statuses blockers pairs)
 
 abbrev μ-loop : tie.MeasureT-loop
 μ-loop bytes cells₀ points₀ statuses₀ blockers₀ pairs₀ reader₀ at₀ cells points statuses blockers pairs reader at = length bytes - at
@@ -34,13 +31,13 @@ start p = p .before .before .before .before .before .before .before .before
 
 -- the tables at the start, in the loop, and after a field
 abbrev lent : tie.Start Inv-loop μ-loop → Tables
-lent s = let a = s .args in tables (a .cells .now) (a .points .now) (a .statuses .now) (a .blockers .now) (a .pairs .now)
+lent s = let a = s .args in tablesOf (a .cells .now) (a .points .now) (a .statuses .now) (a .blockers .now) (a .pairs .now)
 
 abbrev held : tie.At-loop Inv-loop μ-loop → Tables
-held p = let l = p .loop in tables (l .cells) (l .points) (l .statuses) (l .blockers) (l .pairs)
+held p = let l = p .loop in tablesOf (l .cells) (l .points) (l .statuses) (l .blockers) (l .pairs)
 
 abbrev after : tie.After-one-field Inv-loop μ-loop → Tables
-after p = let k = p .one-field .last .1 .1 in tables (k .0) (k .1 .0) (k .1 .1 .0) (k .1 .1 .1 .0) (k .1 .1 .1 .1 .0)
+after p = let k = p .one-field .last .1 .1 in tablesOf (k .0) (k .1 .0) (k .1 .1 .0) (k .1 .1 .1 .0) (k .1 .1 .1 .1 .0)
 
 kept : (p : tie.After-one-field Inv-loop μ-loop) → SameLong (held (looping p)) (after p)
 kept p = let k = p .one-field .kept .1 .1 in record { cells = k .0; points = k .1 .0; statuses = k .1 .1 .0; blockers = k .1 .1 .1 .0; pairs = k .1 .1 .1 .1 .0 }
@@ -62,9 +59,6 @@ within c =
     let l = looping p in
     more-within (l .loop .inv .0) (small (start l)) (read p) (w .reading .given .0 .0) (w .reading .given .0 .1 .0) (w .reading .given .1)
 
-begin-requires : tie.Need-begin-requires Inv-loop μ-loop
-begin-requires c κs = tt
-
 loop-holds : tie.Need-loop-holds Inv-loop μ-loop
 loop-holds c =
     let s = c .before .before .before .before .before .before .before in
@@ -75,15 +69,6 @@ sub-one-field c = c .loop .inv .0 .inside
 
 part-one-field-start : tie.Need-part-one-field-start Inv-loop μ-loop
 part-one-field-start c = c .loop .inv .0 .inside
-
-part-one-field-end : tie.Need-part-one-field-end Inv-loop μ-loop
-part-one-field-end c = search needs
-
-one-field-requires : tie.Need-one-field-requires Inv-loop μ-loop
-one-field-requires c κs = tt
-
-enum-known-reading : tie.Need-enum-known-reading Inv-loop μ-loop
-enum-known-reading c = search needs
 
 add-at : tie.Need-add-at Inv-loop μ-loop
 add-at c = omega (arith, within c .1, small (start (looping (turn (c .before .before .before)))))
@@ -98,48 +83,12 @@ loop-again c =
     let l = looping p in
     (read-more (l .loop .inv .0) (small (start l)) (read p) (w .reading .given .0 .0) (w .reading .given .0 .1 .0) (w .reading .given .1) (kept p), same p)
 
-enum-known-reading-2 : tie.Need-enum-known-reading-2 Inv-loop μ-loop
-enum-known-reading-2 c = search needs
-
-same-length : tie.Need-same-length Inv-loop μ-loop
-same-length c = same (turn (c .before .before .before .before)) .cells
-
-same-length-2 : tie.Need-same-length-2 Inv-loop μ-loop
-same-length-2 c = same (turn (c .before .before .before .before)) .points
-
-same-length-3 : tie.Need-same-length-3 Inv-loop μ-loop
-same-length-3 c = same (turn (c .before .before .before .before)) .statuses
-
-same-length-4 : tie.Need-same-length-4 Inv-loop μ-loop
-same-length-4 c = same (turn (c .before .before .before .before)) .blockers
-
-same-length-5 : tie.Need-same-length-5 Inv-loop μ-loop
-same-length-5 c = same (turn (c .before .before .before .before)) .pairs
-
 returns : tie.Need-returns Inv-loop μ-loop
 returns c =
     let w = c .before .before in
     let p = turn (w .before .before) in
     let l = looping p in
     read-refused (l .loop .inv .0) (small (start l)) (read p) (w .reading2 .given .0 .0) (w .reading2 .given .0 .1 .0) (l .loop .reader .map) (w .reading2 .given .1)
-
-enum-known-reading-3 : tie.Need-enum-known-reading-3 Inv-loop μ-loop
-enum-known-reading-3 c = search needs
-
-same-length-6 : tie.Need-same-length-6 Inv-loop μ-loop
-same-length-6 c = same (turn (c .before .before .before)) .cells
-
-same-length-7 : tie.Need-same-length-7 Inv-loop μ-loop
-same-length-7 c = same (turn (c .before .before .before)) .points
-
-same-length-8 : tie.Need-same-length-8 Inv-loop μ-loop
-same-length-8 c = same (turn (c .before .before .before)) .statuses
-
-same-length-9 : tie.Need-same-length-9 Inv-loop μ-loop
-same-length-9 c = same (turn (c .before .before .before)) .blockers
-
-same-length-10 : tie.Need-same-length-10 Inv-loop μ-loop
-same-length-10 c = same (turn (c .before .before .before)) .pairs
 
 returns-2 : tie.Need-returns-2 Inv-loop μ-loop
 returns-2 c =
@@ -154,27 +103,27 @@ read-file-spec =
     (tie.spec
     Inv-loop
     μ-loop
-    begin-requires
+    (λ c κs. tt)
     loop-holds
     sub-one-field
     part-one-field-start
-    part-one-field-end
-    one-field-requires
-    enum-known-reading
+    (λ c. search needs)
+    (λ c κs. tt)
+    (λ c. search needs)
     add-at
     loop-less
     loop-again
-    enum-known-reading-2
-    same-length
-    same-length-2
-    same-length-3
-    same-length-4
-    same-length-5
+    (λ c. search needs)
+    (λ c. same (turn (c .before .before .before .before)) .cells)
+    (λ c. same (turn (c .before .before .before .before)) .points)
+    (λ c. same (turn (c .before .before .before .before)) .statuses)
+    (λ c. same (turn (c .before .before .before .before)) .blockers)
+    (λ c. same (turn (c .before .before .before .before)) .pairs)
     returns
-    enum-known-reading-3
-    same-length-6
-    same-length-7
-    same-length-8
-    same-length-9
-    same-length-10
+    (λ c. search needs)
+    (λ c. same (turn (c .before .before .before)) .cells)
+    (λ c. same (turn (c .before .before .before)) .points)
+    (λ c. same (turn (c .before .before .before)) .statuses)
+    (λ c. same (turn (c .before .before .before)) .blockers)
+    (λ c. same (turn (c .before .before .before)) .pairs)
     returns-2)

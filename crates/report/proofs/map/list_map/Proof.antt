@@ -1,4 +1,4 @@
--- `map::list_map`: the refusal that is due, or the counts, the points and the pairs one behind another. Assumes nothing.
+-- `map::list_map`: the refusal that is due, or the counts, the points and the pairs one after another. Assumes nothing.
 use borrow.Author.Needs.{needs}
 use Prim.Native.Nat.{ℕ, _≤_}
 use native.Mathlib.Nat.{le-refl}
@@ -13,6 +13,8 @@ use Rattle.answers.proofs.ListingLaws.{listing-done, listing-refused}
 use Rattle.answers.proofs.PassedLaws.{accepted, none-short, lacks-short}
 use Rattle.answers.specs.Asking.{refuseMap}
 use Rattle.answers.proofs.PointLaws.{used}
+use Rattle.answers.specs.Walks.{tableNeeds}
+use Rattle.model.specs.Limits.{maxCells, maxPoints, needListing, needPairs}
 use Rattle.model.specs.Refusal.{short}
 use Rattle.held.proofs.RoomLaws.{Enough}
 use Rattle.report.proofs.CallLaws.{call-accepted, map-accepted}
@@ -21,31 +23,22 @@ use Rattle.report.proofs.map.list_map.Statement.{statement}
 use Rattle.report.proofs.map.list_map.Tie as tie
 
 abbrev start : tie.After-refuse → tie.Start
-start p = p .before .before .before .before .before .before .before .before .before .before .before .before .before
+start p = p .before .before .before .before .before .before .before .before .before
 
 -- what is lent, with its needs
 abbrev lent : tie.Start → List (ℕ × ℕ)
 lent s = let a = s .args in
-    (length (a .cells .now), 1024) ∷ (length (a .points .now), 64) ∷ (length (a .statuses .now), 64) ∷ (length (a .blockers .now), 64) ∷ (length (a .pairs .now), 4096) ∷ (length (a .out .now), 166656) ∷ []
+    tableNeeds (length (a .cells .now)) (length (a .points .now)) (length (a .statuses .now)) (length (a .blockers .now)) (length (a .pairs .now)) ((length (a .out .now), needListing) ∷ [])
 
 -- what was answered, and what it says of the lent tables where it is 0
 number : (p : tie.After-refuse) → p .refuse .result ≡ refuseMap (short (lent (start p))) (start p .args .map) false false
 number p =
-    let l = p .before in
-    let k = l .before in
-    let j = k .before in
-    let i = j .before in
-    let h = i .before in
-    let g = h .before in
-    let e1 = lacks-short _ 166656 _ false (g .lacks .result) (g .lacks .ensures) none-short in
-    let e2 = lacks-short _ 4096 _ (g .lacks .result) (h .lacks2 .result) (h .lacks2 .ensures) e1 in
-    let e3 = lacks-short _ 64 _ (h .lacks2 .result) (i .lacks3 .result) (i .lacks3 .ensures) e2 in
-    let e4 = lacks-short _ 64 _ (i .lacks3 .result) (j .lacks4 .result) (j .lacks4 .ensures) e3 in
-    let e5 = lacks-short _ 64 _ (j .lacks4 .result) (k .lacks5 .result) (k .lacks5 .ensures) e4 in
-    let e6 : l .lacks6 .result ≡ short (lent (start p)) = lacks-short _ 1024 _ (k .lacks5 .result) (l .lacks6 .result) (l .lacks6 .ensures) e5 in
-    rw (← e6) (p .refuse .ensures)
+    let t = p .before in
+    let o = t .before .lacks in
+    let e = lacks-short (length (start p .args .out .now)) needListing [] false (o .result) (o .ensures) none-short in
+    rw (← t .lacks-tables .ensures ((length (start p .args .out .now), needListing) ∷ []) e) (p .refuse .ensures)
 
-accept : (p : tie.Else1) → Enough (lent (start (p .before))) × (start (p .before) .args .map .cells ≤ 1024) × (start (p .before) .args .map .points ≤ 64)
+accept : (p : tie.Else1) → Enough (lent (start (p .before))) × (start (p .before) .args .map .cells ≤ maxCells) × (start (p .before) .args .map .points ≤ maxPoints)
 accept p = let s = start (p .before) in accepted (lent s) (s .args .map) false false (p .before .refuse .result) (number (p .before)) (p .if1 .left)
 
 -- where nothing is refused; where the pairs are listed; where they are counted; where the points are printed
@@ -62,64 +55,25 @@ abbrev printing : tie.After-slice-known3 → tie.After-slice-known2
 printing p = p .before .before .before .before .before .before .before
 
 -- how many pairs are printed is within the arrays, which keep their length
-clamped : (p : tie.Joined2) → p .if2 .edges ≤ 2016
+clamped : (p : tie.Joined2) → p .if2 .edges ≤ needPairs
 clamped p = ⊎-elim (λ w. omega (arith, w .1)) (λ w. omega (arith, w .0 .left, w .1)) (p .if2 .came)
 
-within : (p : tie.Joined2) (l : List ℕ) → length l ≡ 2016 → p .if2 .edges ≤ length l
+within : (p : tie.Joined2) (l : List ℕ) → length l ≡ needPairs → p .if2 .edges ≤ length l
 within p l e = rw e (clamped p)
 
-cut : (p : tie.Joined2) (l : List ℕ) → length l ≡ 2016 → p .if2 .edges ≡ length (take (p .if2 .edges) l)
+cut : (p : tie.Joined2) (l : List ℕ) → length l ≡ needPairs → p .if2 .edges ≡ length (take (p .if2 .edges) l)
 cut p l e = sym (length-take-le (p .if2 .edges) l (within p l e))
-
-lacks-requires : tie.Need-lacks-requires
-lacks-requires c κs = tt
-
-lacks-requires-2 : tie.Need-lacks-requires-2
-lacks-requires-2 c κs = tt
-
-lacks-requires-3 : tie.Need-lacks-requires-3
-lacks-requires-3 c κs = tt
-
-lacks-requires-4 : tie.Need-lacks-requires-4
-lacks-requires-4 c κs = tt
-
-lacks-requires-5 : tie.Need-lacks-requires-5
-lacks-requires-5 c κs = tt
-
-lacks-requires-6 : tie.Need-lacks-requires-6
-lacks-requires-6 c κs = tt
-
-refuse-requires : tie.Need-refuse-requires
-refuse-requires c κs = tt
-
-refused-requires : tie.Need-refused-requires
-refused-requires c κs = tt
 
 returns : tie.Need-returns
 returns c =
     let p = c .before .before in
     listing-refused _ (p .refuse .result) _ _ (c .refused .result) (number p) (c .before .if1 .taken) (c .refused .ensures) (refl, tt)
 
-slice-aggregate-all-pairs : tie.Need-slice-aggregate-all-pairs
-slice-aggregate-all-pairs c = search needs
-
-slice-aggregate-all-pairs-2 : tie.Need-slice-aggregate-all-pairs-2
-slice-aggregate-all-pairs-2 c = search needs
-
-slice-aggregate-all-pairs-3 : tie.Need-slice-aggregate-all-pairs-3
-slice-aggregate-all-pairs-3 c = search needs
-
-all-pairs-requires : tie.Need-all-pairs-requires
-all-pairs-requires c κs = tt
-
 count-all-requires : tie.Need-count-all-requires
 count-all-requires c κs =
     let a = accept (passes (listing c)) in
     let r = a .0 in
     (a .1, r .0, r .1 .0, r .1 .1 .1 .0, r .1 .1 .1 .1 .0)
-
-put-counts-requires : tie.Need-put-counts-requires
-put-counts-requires c κs = tt
 
 slice-aggregate-put-points : tie.Need-slice-aggregate-put-points
 slice-aggregate-put-points c =
@@ -138,9 +92,6 @@ slice-aggregate-put-points-3 c =
     let p = passes (listing (joined (c .before .before .before .before))) in
     let a = start (p .before) .args in
     sym (used (a .map .points) (a .blockers .now) (accept p .2) (accept p .0 .1 .1 .1 .0))
-
-put-points-requires : tie.Need-put-points-requires
-put-points-requires c κs = tt
 
 array-share-prefix-lesser : tie.Need-array-share-prefix-lesser
 array-share-prefix-lesser c =
@@ -178,12 +129,6 @@ slice-aggregate-put-pairs-3 c =
     let w = listing p .all-pairs in
     cut p (w .last .1 .1 .1 .1 .1 .0) (w .kept .1 .1 .1 .1 .1 .0)
 
-put-pairs-requires : tie.Need-put-pairs-requires
-put-pairs-requires c κs = tt
-
-same-length : tie.Need-same-length
-same-length c = search needs
-
 returns-2 : tie.Need-returns-2
 returns-2 c =
     let z = c .before .before in
@@ -199,10 +144,10 @@ returns-2 c =
     listing-done _ (p .before .refuse .result) _ _ _ zero (p .if1 .left) refl (λ M h.
     let t = h .2 in
     let clear = map-accepted (lent (start (p .before))) (a .map) (sym zero ∙ p .if1 .left) in
-    let zeros : List ℕ = replicate 2016 0 in
-    let long : length zeros ≡ 2016 = length-replicate {A = ℕ} 2016 0 in
+    let zeros : List ℕ = replicate needPairs 0 in
+    let long : length zeros ≡ needPairs = length-replicate {A = ℕ} needPairs 0 in
     let same = w .all-pairs .kept .1 .1 .1 .0 in
-    let ends = w .all-pairs .ensures .answer M (h .0, h .1, (t .1, t .4)) (call-accepted _ (a .map) clear (accept p .0 .1 .0, (accept p .0 .1 .1 .1 .1 .0, (le-refl 2016, (le-refl 2016, (le-refl 2016, tt)))))) in
+    let ends = w .all-pairs .ensures .answer M (h .0, h .1, (t .1, t .4)) (call-accepted _ (a .map) clear (accept p .0 .1 .0, (accept p .0 .1 .1 .1 .1 .0, (le-refl needPairs, (le-refl needPairs, (le-refl needPairs, tt)))))) in
     let all = all-clamped M (w .all-pairs .result .count) zeros _ _ _ long same ends (q .if2 .edges) (⊎-elim (λ v. inl (v .0 .taken, v .1)) (λ v. inr (v .0 .left, v .1)) (q .if2 .came)) in
     map-written (a .map) (h .0) M (h .1) (a .points .now) (a .statuses .now) (a .blockers .now) (t .1) (t .2) (t .3)
     (w .all-pairs .result .count) (q .if2 .edges) zeros _ _ _ long same ends all
@@ -213,31 +158,27 @@ pub list-map-spec : {M : Type 1} → statement M
 list-map-spec =
     tie.close
     (tie.spec
-    lacks-requires
-    lacks-requires-2
-    lacks-requires-3
-    lacks-requires-4
-    lacks-requires-5
-    lacks-requires-6
-    refuse-requires
-    refused-requires
+    (λ c κs. tt)
+    (λ c κs. tt)
+    (λ c κs. tt)
+    (λ c κs. tt)
     returns
-    slice-aggregate-all-pairs
-    slice-aggregate-all-pairs-2
-    slice-aggregate-all-pairs-3
-    all-pairs-requires
+    (λ c. search needs)
+    (λ c. search needs)
+    (λ c. search needs)
+    (λ c κs. tt)
     count-all-requires
-    put-counts-requires
+    (λ c κs. tt)
     slice-aggregate-put-points
     slice-aggregate-put-points-2
     slice-aggregate-put-points-3
-    put-points-requires
+    (λ c κs. tt)
     array-share-prefix-lesser
     slice-aggregate-put-pairs
     array-share-prefix-greater
     slice-aggregate-put-pairs-2
     array-share-prefix-blocks
     slice-aggregate-put-pairs-3
-    put-pairs-requires
-    same-length
+    (λ c κs. tt)
+    (λ c. search needs)
     returns-2)

@@ -1,4 +1,4 @@
--- `blocker::block_points`: the points in turn, each written to its place. Assumes nothing.
+-- `blocker::block_points`: the points one after another, each written to its place. Assumes nothing.
 use Prim.Native.Nat.{_-_, _≤_}
 use native.Mathlib.Omega.{arith}
 use mathlib.Core.Logic.{⊎-elim, inl, inr}
@@ -10,10 +10,10 @@ use Rattle.sight.proofs.blocker.block_points.Statement.{statement}
 use Rattle.sight.proofs.blocker.block_points.Tie as tie
 
 abbrev Inv-loop : tie.InvT-loop
-Inv-loop size radius near cells turned full points moods old out₀ i₀ out i = Blocking size radius near cells turned full points moods old out₀ i out
+Inv-loop size radius reach cells confirmed full points moods old out₀ i₀ out i = Blocking size radius reach cells confirmed full points moods old out₀ i out
 
 abbrev μ-loop : tie.MeasureT-loop
-μ-loop size radius near cells turned full points moods old out₀ i₀ out i = length points - i
+μ-loop size radius reach cells confirmed full points moods old out₀ i₀ out i = length points - i
 
 abbrev start : tie.After-slice-known Inv-loop μ-loop → tie.Start Inv-loop μ-loop
 start k = k .before .before .before .before .before .before .before
@@ -35,29 +35,8 @@ returns c =
 loop-holds : tie.Need-loop-holds Inv-loop μ-loop
 loop-holds c = blocking-start _ _ _ _ _ _ _ _ _ _
 
-mul-k : tie.Need-mul-k Inv-loop μ-loop
-mul-k c = search needs
-
-shared-slice-read-k : tie.Need-shared-slice-read-k Inv-loop μ-loop
-shared-slice-read-k c = search needs
-
-mul-of-word : tie.Need-mul-of-word Inv-loop μ-loop
-mul-of-word c = search needs
-
 shared-slice-read-of-word : tie.Need-shared-slice-read-of-word Inv-loop μ-loop
 shared-slice-read-of-word c = let h = words (c .before .before .before .before) in let l = c .before .before .loop-test .taken in omega arith
-
-of-word-requires : tie.Need-of-word-requires Inv-loop μ-loop
-of-word-requires c κs = search needs
-
-start-point-requires : tie.Need-start-point-requires Inv-loop μ-loop
-start-point-requires c κs = search needs
-
-run-point-requires : tie.Need-run-point-requires Inv-loop μ-loop
-run-point-requires c κs = search needs
-
-mul-out : tie.Need-mul-out Inv-loop μ-loop
-mul-out c = search needs
 
 slice-write-out : tie.Need-slice-write-out Inv-loop μ-loop
 slice-write-out c =
@@ -66,12 +45,6 @@ slice-write-out c =
     let l = t .loop-test .taken in
     let e = t .before .loop .inv .same in
     omega arith
-
-add-i : tie.Need-add-i Inv-loop μ-loop
-add-i c = search needs
-
-loop-less : tie.Need-loop-less Inv-loop μ-loop
-loop-less c = search needs
 
 loop-again : tie.Need-loop-again Inv-loop μ-loop
 loop-again c =
@@ -95,17 +68,17 @@ block-points-spec =
     μ-loop
     returns
     loop-holds
-    mul-k
-    shared-slice-read-k
-    mul-of-word
+    (λ c. search needs)
+    (λ c. search needs)
+    (λ c. search needs)
     shared-slice-read-of-word
-    of-word-requires
-    start-point-requires
-    run-point-requires
-    mul-out
+    (λ c κs. search needs)
+    (λ c κs. search needs)
+    (λ c κs. search needs)
+    (λ c. search needs)
     slice-write-out
-    add-i
-    loop-less
+    (λ c. search needs)
+    (λ c. search needs)
     loop-again
     same-length
     returns-2)

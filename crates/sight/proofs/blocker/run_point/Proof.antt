@@ -1,65 +1,44 @@
--- `blocker::run_point`: the changes in turn. Assumes nothing.
+-- `blocker::run_point`: the changes one after another. Assumes nothing.
 use Prim.Native.Nat.{_-_}
 use mathlib.Core.Path.{sym, _∙_}
 use mathlib.Core.Logic.{⊎-elim}
 use mathlib.Core.Bool.{true, false}
 use lib.ListN.{length, getD}
 use borrow.Author.Needs.{needs}
-use Rattle.batches.proofs.WriteLaws.{says-free, says-full}
+use Rattle.batches.proofs.WriteLaws.{means-free, means-full}
 use Rattle.model.specs.ClosedForm.{pointRun}
 use Rattle.model.specs.Map.{tests}
-use Rattle.sight.proofs.ChangeLaws.{Running, point-turns, running-start, running-next, running-end}
+use Rattle.sight.proofs.ChangeLaws.{Running, point-steps, running-start, running-next, running-end}
 use Rattle.sight.proofs.PointLaws.{Given, point-apart, point-freed, point-kept, point-met}
 use Rattle.sight.proofs.blocker.run_point.Statement.{statement}
 use Rattle.sight.proofs.blocker.run_point.Tie as tie
 
 abbrev Inv-loop : tie.InvT-loop
-Inv-loop size radius near cells turned full k start block₀ i₀ block i = Running (Given size radius near cells) (pointRun (tests size radius) cells k) turned full start i block
+Inv-loop size radius reach cells confirmed full k start block₀ i₀ block i = Running (Given size radius reach cells) (pointRun (tests size radius) cells k) confirmed full start i block
 
 abbrev μ-loop : tie.MeasureT-loop
-μ-loop size radius near cells turned full k start block₀ i₀ block i = length turned - i
+μ-loop size radius reach cells confirmed full k start block₀ i₀ block i = length confirmed - i
 
 loop-holds : tie.Need-loop-holds Inv-loop μ-loop
 loop-holds c =
     let s = c .before .before .before .args in
-    running-start (Given (s .size) (s .radius) (s .near) (s .cells .now)) (pointRun (tests (s .size) (s .radius)) (s .cells .now) (s .k)) (s .turned .now) (s .full .now) (s .start)
-
-mul-c : tie.Need-mul-c Inv-loop μ-loop
-mul-c c = search needs
-
-shared-slice-read-c : tie.Need-shared-slice-read-c Inv-loop μ-loop
-shared-slice-read-c c = search needs
-
-shared-slice-read-if1 : tie.Need-shared-slice-read-if1 Inv-loop μ-loop
-shared-slice-read-if1 c = search needs
-
-square-at-requires : tie.Need-square-at-requires Inv-loop μ-loop
-square-at-requires c κs = search needs
-
-near-by-requires : tie.Need-near-by-requires Inv-loop μ-loop
-near-by-requires c κs = search needs
-
-add-i : tie.Need-add-i Inv-loop μ-loop
-add-i c = search needs
-
-loop-less : tie.Need-loop-less Inv-loop μ-loop
-loop-less c = search needs
+    running-start (Given (s .size) (s .radius) (s .reach) (s .cells .now)) (pointRun (tests (s .size) (s .radius)) (s .cells .now) (s .k)) (s .confirmed .now) (s .full .now) (s .start)
 
 loop-again : tie.Need-loop-again Inv-loop μ-loop
 loop-again c =
     let l = c .before .before .before .before in
     let s = l .before .before .before .before .args in
     let h = c .before .before .before .loop-test .taken in
-    let k = getD (s .turned .now) (l .loop .i) 0 in
-    let t = point-turns (tests (s .size) (s .radius)) (s .cells .now) (s .k) in
+    let k = getD (s .confirmed .now) (l .loop .i) 0 in
+    let t = point-steps (tests (s .size) (s .radius)) (s .cells .now) (s .k) in
     ⊎-elim
-    (λ w. rw (w .3) (running-next t (l .loop .inv) (w .2 .result) false h (says-free (w .0 .taken)) (point-freed (s .size) (s .radius) (s .near) (s .cells .now) (s .k) k (l .loop .block) (w .2 .result) (w .1 .taken) (w .2 .ensures))))
+    (λ w. rw (w .3) (running-next t (l .loop .inv) (w .2 .result) false h (means-free (w .0 .taken)) (point-freed (s .size) (s .radius) (s .reach) (s .cells .now) (s .k) k (l .loop .block) (w .2 .result) (w .1 .taken) (w .2 .ensures))))
     (⊎-elim
-    (λ w. rw (w .2) (running-next t (l .loop .inv) (l .loop .block) false h (says-free (w .0 .taken)) (point-kept (s .size) (s .radius) (s .near) (s .cells .now) (s .k) k (l .loop .block) (w .1 .left))))
+    (λ w. rw (w .2) (running-next t (l .loop .inv) (l .loop .block) false h (means-free (w .0 .taken)) (point-kept (s .size) (s .radius) (s .reach) (s .cells .now) (s .k) k (l .loop .block) (w .1 .left))))
     (⊎-elim
-    (λ w. rw (w .4) (running-next t (l .loop .inv) k true h (says-full (w .0 .left)) (point-met (s .size) (s .radius) (s .near) (s .cells .now) (s .k) k (l .loop .block) (w .2 .result) (w .1 .taken) (w .2 .ensures) (w .3 .taken))))
+    (λ w. rw (w .4) (running-next t (l .loop .inv) k true h (means-full (w .0 .left)) (point-met (s .size) (s .radius) (s .reach) (s .cells .now) (s .k) k (l .loop .block) (w .2 .result) (w .1 .taken) (w .2 .ensures) (w .3 .taken))))
     (λ w. rw (w .2)
-    (running-next t (l .loop .inv) (l .loop .block) true h (says-full (w .0 .left)) (point-apart (s .size) (s .radius) (s .near) (s .cells .now) (s .k) k (l .loop .block)
+    (running-next t (l .loop .inv) (l .loop .block) true h (means-full (w .0 .left)) (point-apart (s .size) (s .radius) (s .reach) (s .cells .now) (s .k) k (l .loop .block)
     (⊎-elim (λ v z. sym (v .1 .ensures) ∙ v .2 .left) (λ v z. absurd (v .left z)) (w .1 .came)))))))
     (c .if1 .came)
 
@@ -67,7 +46,7 @@ returns : tie.Need-returns Inv-loop μ-loop
 returns c =
     let l = c .before in
     let s = l .before .before .before .before .args in
-    λ ch o a i j p q n e m. running-end (point-turns (tests (s .size) (s .radius)) (s .cells .now) (s .k)) (l .loop .inv) (c .loop-test .left) (record { order = a; inside = i; reaches = n }) ch o p q j e m
+    λ ch o a i j p q n e m. running-end (point-steps (tests (s .size) (s .radius)) (s .cells .now) (s .k)) (l .loop .inv) (c .loop-test .left) (record { order = a; inside = i; reaches = n }) ch o p q j e m
 
 pub run-point-spec : {M : Type 1} → statement M
 run-point-spec =
@@ -76,12 +55,12 @@ run-point-spec =
     Inv-loop
     μ-loop
     loop-holds
-    mul-c
-    shared-slice-read-c
-    shared-slice-read-if1
-    square-at-requires
-    near-by-requires
-    add-i
-    loop-less
+    (λ c. search needs)
+    (λ c. search needs)
+    (λ c. search needs)
+    (λ c κs. search needs)
+    (λ c κs. search needs)
+    (λ c. search needs)
+    (λ c. search needs)
     loop-again
     returns)

@@ -5,22 +5,10 @@ use Rattle.sight.proofs.PointLaws.{start-new, start-old, start-past}
 use Rattle.sight.proofs.blocker.start_point.Statement.{statement}
 use Rattle.sight.proofs.blocker.start_point.Tie as tie
 
-square-at-requires : tie.Need-square-at-requires
-square-at-requires c κs = search needs
-
 returns : tie.Need-returns
 returns c =
     let s = c .before .before .before .before .args in
     λ B w a i o e. start-new (tests (s .size) (s .radius)) (s .cells .now) B (s .k) w (s .was) e (c .square-at .result) (c .before .if1 .taken) (c .square-at .ensures a i)
-
-sub-result : tie.Need-sub-result
-sub-result c = search needs
-
-mul-result : tie.Need-mul-result
-mul-result c = search needs
-
-shared-slice-read-result : tie.Need-shared-slice-read-result
-shared-slice-read-result c = search needs
 
 returns-2 : tie.Need-returns-2
 returns-2 c =
@@ -36,10 +24,10 @@ pub start-point-spec : {M : Type 1} → statement M
 start-point-spec =
     tie.close
     (tie.spec
-    square-at-requires
+    (λ c κs. search needs)
     returns
-    sub-result
-    mul-result
-    shared-slice-read-result
+    (λ c. search needs)
+    (λ c. search needs)
+    (λ c. search needs)
     returns-2
     returns-3)

@@ -1,4 +1,4 @@
--- `pair::join_pairs`: the rows before the i-th stand. Assumes nothing.
+-- `pair::join_pairs`: the rows before the i-th are written. Assumes nothing.
 use Prim.Native.Nat.{_-_, _*_, _≤_}
 use native.Mathlib.Omega.{arith}
 use mathlib.Core.Logic.{⊎-elim}
@@ -10,15 +10,15 @@ use Rattle.sight.proofs.pair.join_pairs.Statement.{statement}
 use Rattle.sight.proofs.pair.join_pairs.Tie as tie
 
 abbrev Inv-loop : tie.InvT-loop
-Inv-loop size radius cells turned full points moods old out₀ reach i₀ out i = Rows size radius reach cells turned full points moods old i out₀ out
+Inv-loop size radius cells confirmed full points moods old out₀ proximity i₀ out i = Rows size radius proximity cells confirmed full points moods old i out₀ out
 
 abbrev μ-loop : tie.MeasureT-loop
-μ-loop size radius cells turned full points moods old out₀ reach i₀ out i = length points - i
+μ-loop size radius cells confirmed full points moods old out₀ proximity i₀ out i = length points - i
 
 returns : tie.Need-returns Inv-loop μ-loop
 returns c = λ ch S P seeing pairs named space few s.
     let a = c .before .before .before .before .before .before .before .before .args in
-    let k = seeing-lengths (a .cells .now) ch S (a .turned .now) (a .full .now) (a .points .now) (a .moods .now) seeing in
+    let k = seeing-lengths (a .cells .now) ch S (a .confirmed .now) (a .full .now) (a .points .now) (a .moods .now) seeing in
     absurd (⊎-elim (λ t. omega (arith, t .taken)) (λ t. let h = ltb-true (length (a .moods .now)) (length (a .points .now)) (t .1 .taken) in omega arith) (c .if1 .came))
 
 mul-if4 : tie.Need-mul-if4 Inv-loop μ-loop
@@ -27,11 +27,8 @@ mul-if4 c = omega (arith, c .if3 .left)
 returns-2 : tie.Need-returns-2 Inv-loop μ-loop
 returns-2 c = λ ch S P seeing pairs named space few s.
     let a = c .before .before .before .before .before .before .before .before .before .before .args in
-    let k = seeing-lengths (a .cells .now) ch S (a .turned .now) (a .full .now) (a .points .now) (a .moods .now) seeing in
+    let k = seeing-lengths (a .cells .now) ch S (a .confirmed .now) (a .full .now) (a .points .now) (a .moods .now) seeing in
     absurd (⊎-elim (λ t. omega (arith, t .taken)) (λ t. let h = ltb-true (length (a .out .now)) (64 * length (a .points .now)) (t .1 .taken) in omega arith) (c .if3 .came))
-
-new-requires : tie.Need-new-requires Inv-loop μ-loop
-new-requires c κs = search needs
 
 loop-holds : tie.Need-loop-holds Inv-loop μ-loop
 loop-holds c = rows-start _ _ _ _ _ _ _ _ _ _
@@ -39,7 +36,7 @@ loop-holds c = rows-start _ _ _ _ _ _ _ _ _ _
 -- what was tested
 tested : (c : tie.Else4 Inv-loop μ-loop)
     → let a = c .before .before .before .before .before .before .before .before .before .before .before .args in
-    (length (a .turned .now) ≤ length (a .full .now)) × (length (a .points .now) ≤ length (a .moods .now)) × (length (a .points .now) ≤ 64) × (64 * length (a .points .now) ≤ length (a .out .now))
+    (length (a .confirmed .now) ≤ length (a .full .now)) × (length (a .points .now) ≤ length (a .moods .now)) × (length (a .points .now) ≤ 64) × (64 * length (a .points .now) ≤ length (a .out .now))
 tested c =
     let e = c .before .before in
     let a = e .before .before .before .before .before .before .before .before .before .args in
@@ -67,8 +64,8 @@ loop-again c =
     let g = l .before .loop in
     let n = l .before .before in
     let a = n .before .before .before .before .before .before .before .before .before .before .before .before .args in
-    rows-more (a .size) (a .radius) (n .new .result) (a .cells .now) (a .turned .now) (a .full .now) (a .points .now) (a .moods .now) (a .old .now) (g .i) (a .out .now) (g .out) (j .join-row .last .1 .1 .1 .1 .1 .1 .1 .1 .1 .1 .0) (g .inv) (l .loop-test .taken) (c .before .out .given)
-    (λ ch S P w s. j .join-row .ensures ch S P (w .seeing) (w .near) (w .pairs) (w .named) s)
+    rows-more (a .size) (a .radius) (n .new .result) (a .cells .now) (a .confirmed .now) (a .full .now) (a .points .now) (a .moods .now) (a .old .now) (g .i) (a .out .now) (g .out) (j .join-row .last .1 .1 .1 .1 .1 .1 .1 .1 .1 .1 .0) (g .inv) (l .loop-test .taken) (c .before .out .given)
+    (λ ch S P w s. j .join-row .ensures ch S P (w .seeing) (w .isProximity) (w .pairs) (w .named) s)
 
 same-length : tie.Need-same-length Inv-loop μ-loop
 same-length c = c .before .loop .inv .same
@@ -78,8 +75,8 @@ returns-3 c = λ ch S P seeing pairs named space few s.
     let g = c .before .loop in
     let n = c .before .before in
     let a = n .before .before .before .before .before .before .before .before .before .before .before .before .args in
-    rows-end (a .size) (a .radius) (n .new .result) (a .cells .now) (a .turned .now) (a .full .now) (a .points .now) (a .moods .now) (a .old .now) (g .i) (a .out .now) (g .out) (g .inv) (c .loop-test .left) ch S P
-    (record { seeing = seeing; near = n .new .ensures; pairs = pairs; named = named }) s
+    rows-end (a .size) (a .radius) (n .new .result) (a .cells .now) (a .confirmed .now) (a .full .now) (a .points .now) (a .moods .now) (a .old .now) (g .i) (a .out .now) (g .out) (g .inv) (c .loop-test .left) ch S P
+    (record { seeing = seeing; isProximity = n .new .ensures; pairs = pairs; named = named }) s
 
 pub join-pairs-spec : {M : Type 1} → statement M
 join-pairs-spec =
@@ -90,7 +87,7 @@ join-pairs-spec =
     returns
     mul-if4
     returns-2
-    new-requires
+    (λ c κs. search needs)
     loop-holds
     join-row-requires
     add-i

@@ -25,9 +25,6 @@ placed c =
     let f = eqb-false (a .b) 0 (c .before .before .if2 .left) in
     (omega (arith, f), ltb-false 64 (a .a) (c .before .if3 .left), ltb-false 64 (a .b) (c .if4 .left))
 
-sub-at : tie.Need-sub-at
-sub-at c = search needs
-
 mul-at : tie.Need-mul-at
 mul-at c = let k = placed c in omega arith
 
@@ -36,12 +33,6 @@ sub-at-2 c = placed c .0
 
 add-at : tie.Need-add-at
 add-at c = let k = placed c in omega arith
-
-mul-result : tie.Need-mul-result
-mul-result c = search needs
-
-shared-slice-read-result : tie.Need-shared-slice-read-result
-shared-slice-read-result c = search needs
 
 returns-2 : tie.Need-returns-2
 returns-2 c = λ P w v s e f x y.
@@ -61,11 +52,11 @@ old-pair-spec =
     tie.close
     (tie.spec
     returns
-    sub-at
+    (λ c. search needs)
     mul-at
     sub-at-2
     add-at
-    mul-result
-    shared-slice-read-result
+    (λ c. search needs)
+    (λ c. search needs)
     returns-2
     returns-3)

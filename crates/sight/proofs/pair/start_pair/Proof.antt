@@ -3,26 +3,22 @@ use Prim.Native.Nat.{ℕ, _≤_}
 use native.Mathlib.Omega.{arith}
 use mathlib.Core.Path.{_≡_, sym, ap, _∙_}
 use mathlib.Core.Bool.{Bool, true, false}
-use mathlib.Core.Option.{Option}
 use borrow.Author.Needs.{needs}
 use Rattle.marks.specs.Standing.{Standing, mood, sooner}
 use Rattle.marks.specs.declared.mood.Mood.{Mood}
 use Rattle.model.specs.Limits.{maxPoints}
 use Rattle.model.specs.Map.{tests}
 use Rattle.held.specs.Codes.{pairCode}
-use Rattle.held.specs.Pairs.{Pairs}
+use Rattle.held.specs.Pairs.{Pairs, PairsBy}
 use Rattle.sight.specs.Paired.{oldPair}
 use Rattle.sight.proofs.PairLaws.{start-held, start-new, start-open}
 use Rattle.sight.proofs.pair.start_pair.Statement.{statement}
 use Rattle.sight.proofs.pair.start_pair.Tie as tie
 
-old-pair-requires : tie.Need-old-pair-requires
-old-pair-requires c κs = search needs
-
 -- the number is the old pair's
 held : (c : tie.After-old-pair)
     → let a = c .before .before .before .args in
-    (P : ℕ → ℕ → Option (Option ℕ)) (w v : Standing) → Pairs P (a .old .now) → a .was ≡ mood w → a .other ≡ mood v → w .old ≤ maxPoints → v .old ≤ maxPoints
+    (P : PairsBy) (w v : Standing) → Pairs P (a .old .now) → a .was ≡ mood w → a .other ≡ mood v → w .old ≤ maxPoints → v .old ≤ maxPoints
     → c .old-pair .result ≡ pairCode (oldPair P w v)
 held c P w v s e f x y =
     let a = c .before .before .before .args in
@@ -40,12 +36,6 @@ returns-2 c = λ P w v o i s n e f x y.
     let h = c .before .before in
     let a = h .before .before .before .args in
     start-held (tests (a .size) (a .radius)) (a .cells .now) P (a .p) w (a .q) v (h .old-pair .result) (held h P w v s e f x y) (c .if2 .taken) (c .before .if1 .left)
-
-is-sooner-requires : tie.Need-is-sooner-requires
-is-sooner-requires c κs = search needs
-
-sweep-between-requires : tie.Need-sweep-between-requires
-sweep-between-requires c κs = search needs
 
 -- which sweep: the marks are the points'
 queued : (c : tie.After-is-sooner) (b : Bool)
@@ -65,9 +55,6 @@ returns-3 c = λ P w v o i s n e f x y.
     c .sweep-between .ensures o i
     ∙ start-new (tests (a .size) (a .radius)) (a .cells .now) P (a .p) w (a .q) v (h .old-pair .result) (held h P w v s e f x y) n (q .before .if2 .left) true (queued q true w v e f (c .before .if3 .taken))
 
-sweep-between-requires-2 : tie.Need-sweep-between-requires-2
-sweep-between-requires-2 c κs = search needs
-
 returns-4 : tie.Need-returns-4
 returns-4 c = λ P w v o i s n e f x y.
     let q = c .before .before in
@@ -80,11 +67,11 @@ pub start-pair-spec : {M : Type 1} → statement M
 start-pair-spec =
     tie.close
     (tie.spec
-    old-pair-requires
+    (λ c κs. search needs)
     returns
     returns-2
-    is-sooner-requires
-    sweep-between-requires
+    (λ c κs. search needs)
+    (λ c κs. search needs)
     returns-3
-    sweep-between-requires-2
+    (λ c κs. search needs)
     returns-4)

@@ -34,38 +34,14 @@ number p =
 going : (e : tie.Else1) → let a = start (e .before) .args in Going (a .map) (a .cells .now) (a .out .now) (a .cell .x) (a .cell .y)
 going e = record { pass = sym (number (e .before)) ∙ e .if1 .left }
 
-lacks-requires : tie.Need-lacks-requires
-lacks-requires c κs = tt
-
-lacks-requires-2 : tie.Need-lacks-requires-2
-lacks-requires-2 c κs = tt
-
-off-edge-requires : tie.Need-off-edge-requires
-off-edge-requires c κs = tt
-
-refuse-requires : tie.Need-refuse-requires
-refuse-requires c κs = tt
-
-refused-requires : tie.Need-refused-requires
-refused-requires c κs = tt
-
 returns : tie.Need-returns
 returns c =
     let p = c .before .before in
     let a = start p .args in
     listing-refused (refusal (a .map) (lengths (a .cells .now) (a .out .now)) (a .cell .x) (a .cell .y)) (p .refuse .result) _ _ (c .refused .result) (number p) (c .before .if1 .taken) (c .refused .ensures) (refl, tt)
 
-key-requires : tie.Need-key-requires
-key-requires c κs = tt
-
 slice-aggregate-square-at : tie.Need-slice-aggregate-square-at
 slice-aggregate-square-at c = sym (cells-used (going (c .before .before)))
-
-square-at-requires : tie.Need-square-at-requires
-square-at-requires c κs = tt
-
-refused-requires-2 : tie.Need-refused-requires-2
-refused-requires-2 c κs = tt
 
 returns-2 : tie.Need-returns-2
 returns-2 c =
@@ -81,9 +57,6 @@ write-steps-requires c κs =
     let p = c .before .before .before in
     around-fits (going (entry p)) (keyed p .key .result) (keyed p .key .ensures)
 
-same-length : tie.Need-same-length
-same-length c = c .before .before .write-steps .kept .1 .1 .1 .1 .0
-
 returns-3 : tie.Need-returns-3
 returns-3 c =
     let w = c .before .before in
@@ -96,18 +69,18 @@ pub neighbours-spec : {M : Type 1} → statement M
 neighbours-spec =
     tie.close
     (tie.spec
-    lacks-requires
-    lacks-requires-2
-    off-edge-requires
-    refuse-requires
-    refused-requires
+    (λ c κs. tt)
+    (λ c κs. tt)
+    (λ c κs. tt)
+    (λ c κs. tt)
+    (λ c κs. tt)
     returns
-    key-requires
+    (λ c κs. tt)
     slice-aggregate-square-at
-    square-at-requires
-    refused-requires-2
+    (λ c κs. tt)
+    (λ c κs. tt)
     returns-2
     slice-aggregate-write-steps
     write-steps-requires
-    same-length
+    (λ c. c .before .before .write-steps .kept .1 .1 .1 .1 .0)
     returns-3)

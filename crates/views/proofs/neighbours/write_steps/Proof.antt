@@ -17,44 +17,17 @@ abbrev μ-loop : tie.MeasureT-loop
 small : (t : tie.In-loop Inv-loop μ-loop) → let l = t .before .loop in (l .n < 8) × (l .n < length (l .out))
 small t = let v = t .before .loop .inv in (omega (arith, v .up, t .loop-test .taken), omega (arith, v .up, v .few, v .room, v .grown .same, t .loop-test .taken))
 
-sub-west : tie.Need-sub-west Inv-loop μ-loop
-sub-west c = let p = c .before .before .pre in omega (arith, p .0, p .1)
-
-add-east : tie.Need-add-east Inv-loop μ-loop
-add-east c = let p = c .before .before .pre in omega (arith, p .0, p .1)
-
-sub-t11 : tie.Need-sub-t11 Inv-loop μ-loop
-sub-t11 c = let p = c .before .before .pre in omega (arith, p .0, p .1)
-
-add-t12 : tie.Need-add-t12 Inv-loop μ-loop
-add-t12 c = let p = c .before .before .pre in omega (arith, p .0, p .1)
-
-sub-t13 : tie.Need-sub-t13 Inv-loop μ-loop
-sub-t13 c = let p = c .before .before .pre in omega (arith, p .0, p .1)
-
-add-t14 : tie.Need-add-t14 Inv-loop μ-loop
-add-t14 c = let p = c .before .before .pre in omega (arith, p .0, p .1)
-
-sub-t15 : tie.Need-sub-t15 Inv-loop μ-loop
-sub-t15 c = let p = c .before .before .pre in omega (arith, p .0, p .1)
-
-add-t16 : tie.Need-add-t16 Inv-loop μ-loop
-add-t16 c = let p = c .before .before .pre in omega (arith, p .0, p .1)
-
 loop-holds : tie.Need-loop-holds Inv-loop μ-loop
 loop-holds c =
     let s = c .before .before in
     let a = s .args in
-    steps-none (a .size) (a .radius) (a .cells .now) (a .k) (a .out .now) (s .pre .2)
+    steps-none (a .size) (a .radius) (a .cells .now) (a .k) (a .out .now) (s .pre .1)
 
 mul-sweep-between : tie.Need-mul-sweep-between Inv-loop μ-loop
 mul-sweep-between c = omega (arith, c .loop-test .taken)
 
 array-read-sweep-between : tie.Need-array-read-sweep-between Inv-loop μ-loop
 array-read-sweep-between c = c .loop-test .taken
-
-sweep-between-requires : tie.Need-sweep-between-requires Inv-loop μ-loop
-sweep-between-requires c κs = tt
 
 mul-out : tie.Need-mul-out Inv-loop μ-loop
 mul-out c = omega (arith, c .before .before .loop-test .taken)
@@ -89,9 +62,6 @@ loop-again c =
     (λ w. rw (w .1, w .2) (steps-pass (a .size) (a .radius) (a .cells .now) (a .k) (a .out .now) (l .out) (l .n) (l .i) (l .inv) (s .result) (t .loop-test .taken) (s .ensures) (w .0 .left)))
     (c .if1 .came)
 
-same-length : tie.Need-same-length Inv-loop μ-loop
-same-length c = c .before .loop .inv .grown .same
-
 returns : tie.Need-returns Inv-loop μ-loop
 returns c =
     let l = c .before .loop in
@@ -104,18 +74,18 @@ write-steps-spec =
     (tie.spec
     Inv-loop
     μ-loop
-    sub-west
-    add-east
-    sub-t11
-    add-t12
-    sub-t13
-    add-t14
-    sub-t15
-    add-t16
+    (λ c. omega (arith, c .before .before .pre))
+    (λ c. omega (arith, c .before .before .pre))
+    (λ c. omega (arith, c .before .before .pre))
+    (λ c. omega (arith, c .before .before .pre))
+    (λ c. omega (arith, c .before .before .pre))
+    (λ c. omega (arith, c .before .before .pre))
+    (λ c. omega (arith, c .before .before .pre))
+    (λ c. omega (arith, c .before .before .pre))
     loop-holds
     mul-sweep-between
     array-read-sweep-between
-    sweep-between-requires
+    (λ c κs. tt)
     mul-out
     array-read-out
     mul-out-2
@@ -124,5 +94,5 @@ write-steps-spec =
     add-i
     loop-less
     loop-again
-    same-length
+    (λ c. c .before .loop .inv .grown .same)
     returns)

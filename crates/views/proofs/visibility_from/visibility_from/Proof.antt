@@ -7,10 +7,9 @@ use mathlib.Core.Bool.{Bool, true, false}
 use lib.ListN.{length, take}
 use Rattle.answers.proofs.ListingLaws.{listing-refused}
 use Rattle.answers.proofs.PassedLaws.{refused-as, lacks-short, none-short}
-use Rattle.model.specs.Limits.{maxCells, maxPoints, needOthers}
-use Rattle.held.specs.Pairs.{pairPlaces}
+use Rattle.model.specs.Limits.{needOthers}
 use Rattle.table.specs.Tables.{stands}
-use Rattle.held.specs.Holds.{Tables}
+use Rattle.held.specs.Holds.{Tables, tablesOf}
 use Rattle.views.specs.Seen.{sightLengths as lengths, refusal}
 use Rattle.views.proofs.VisibilityLaws.{Going, blockers-used, cells-used, paired-fits, paired-listed, points-used, row-inside, seen-fits, seen-listed, statuses-used}
 use Rattle.views.proofs.visibility_from.visibility_from.Statement.{statement}
@@ -18,7 +17,7 @@ use Rattle.views.proofs.visibility_from.visibility_from.Tie as tie
 
 -- the places: the start; where nothing is refused; the key; its place among the points
 abbrev start : tie.After-refuse → tie.Start
-start p = p .before .before .before .before .before .before .before .before .before .before .before .before .before .before
+start p = p .before .before .before .before .before .before .before .before .before .before
 
 abbrev placed : tie.After-stands-at → tie.After-place
 placed p = p .before .before
@@ -31,24 +30,15 @@ entry p = p .before .before .before .before .before
 
 -- the tables as they are lent
 abbrev lent : tie.Start → Tables
-lent s = let a = s .args in record { cells = a .cells .now; points = a .points .now; statuses = a .statuses .now; blockers = a .blockers .now; pairs = a .pairs .now }
+lent s = let a = s .args in tablesOf (a .cells .now) (a .points .now) (a .statuses .now) (a .blockers .now) (a .pairs .now)
 
 number : (p : tie.After-refuse) → let s = start p in let a = s .args in p .refuse .result ≡ refusal (a .map) (lengths (lent s) (a .out .now)) (a .cell .x) (a .cell .y)
 number p =
     let a = start p .args in
-    let cells = p .before .before in
-    let points = cells .before in
-    let statuses = points .before in
-    let blockers = statuses .before in
-    let pairs = blockers .before in
-    let out = pairs .before in
-    let rest = lacks-short (length (a .pairs .now)) pairPlaces ((length (a .out .now), needOthers) ∷ []) (out .lacks .result) (pairs .lacks2 .result) (pairs .lacks2 .ensures)
-    (lacks-short (length (a .out .now)) needOthers [] false (out .lacks .result) (out .lacks .ensures) none-short) in
-    refused-as (p .refuse .result) (cells .lacks6 .result) _ (a .map) (p .before .off-edge .result) _ false (p .refuse .ensures)
-    (lacks-short (length (a .cells .now)) maxCells _ (points .lacks5 .result) (cells .lacks6 .result) (cells .lacks6 .ensures)
-    (lacks-short (length (a .points .now)) maxPoints _ (statuses .lacks4 .result) (points .lacks5 .result) (points .lacks5 .ensures)
-    (lacks-short (length (a .statuses .now)) maxPoints _ (blockers .lacks3 .result) (statuses .lacks4 .result) (statuses .lacks4 .ensures)
-    (lacks-short (length (a .blockers .now)) maxPoints _ (pairs .lacks2 .result) (blockers .lacks3 .result) (blockers .lacks3 .ensures) rest))))
+    let tables = p .before .before in
+    let out = tables .before .lacks in
+    refused-as (p .refuse .result) (tables .lacks-tables .result) _ (a .map) (p .before .off-edge .result) _ false (p .refuse .ensures)
+    (tables .lacks-tables .ensures ((length (a .out .now), needOthers) ∷ []) (lacks-short (length (a .out .now)) needOthers [] false (out .result) (out .ensures) none-short))
     (p .before .off-edge .ensures)
 
 going : (e : tie.Else1) → let s = start (e .before) in let a = s .args in Going (a .map) (lent s) (a .out .now) (a .cell .x) (a .cell .y)
@@ -58,33 +48,6 @@ stood : (p : tie.After-stands-at) (b : Bool) → p .stands-at .result ≡ b
     → let a = start (entry p .before) .args in stands (keyed p .key .result) (placed p .place .result) (take (a .map .points) (a .points .now)) ≡ b
 stood p b h = sym (p .stands-at .ensures) ∙ h
 
-lacks-requires : tie.Need-lacks-requires
-lacks-requires c κs = tt
-
-lacks-requires-2 : tie.Need-lacks-requires-2
-lacks-requires-2 c κs = tt
-
-lacks-requires-3 : tie.Need-lacks-requires-3
-lacks-requires-3 c κs = tt
-
-lacks-requires-4 : tie.Need-lacks-requires-4
-lacks-requires-4 c κs = tt
-
-lacks-requires-5 : tie.Need-lacks-requires-5
-lacks-requires-5 c κs = tt
-
-lacks-requires-6 : tie.Need-lacks-requires-6
-lacks-requires-6 c κs = tt
-
-off-edge-requires : tie.Need-off-edge-requires
-off-edge-requires c κs = tt
-
-refuse-requires : tie.Need-refuse-requires
-refuse-requires c κs = tt
-
-refused-requires : tie.Need-refused-requires
-refused-requires c κs = tt
-
 returns : tie.Need-returns
 returns c =
     let p = c .before .before in
@@ -92,20 +55,11 @@ returns c =
     let a = s .args in
     listing-refused (refusal (a .map) (lengths (lent s) (a .out .now)) (a .cell .x) (a .cell .y)) (p .refuse .result) _ _ (c .refused .result) (number p) (c .before .if1 .taken) (c .refused .ensures) (refl, tt)
 
-key-requires : tie.Need-key-requires
-key-requires c κs = tt
-
 slice-aggregate-place : tie.Need-slice-aggregate-place
 slice-aggregate-place c = sym (points-used (going (c .before .before)))
 
-place-requires : tie.Need-place-requires
-place-requires c κs = tt
-
 slice-aggregate-stands-at : tie.Need-slice-aggregate-stands-at
 slice-aggregate-stands-at c = sym (points-used (going (c .before .before .before .before)))
-
-stands-at-requires : tie.Need-stands-at-requires
-stands-at-requires c κs = tt
 
 slice-aggregate-write-paired : tie.Need-slice-aggregate-write-paired
 slice-aggregate-write-paired c = sym (points-used (going (entry (c .before .before))))
@@ -125,12 +79,6 @@ add-write-paired c = let i = inside (c .before) in omega (arith, i .0, i .1)
 
 mul-write-paired-3 : tie.Need-mul-write-paired-3
 mul-write-paired-3 c = omega (arith, inside (c .before) .0)
-
-sub-write-paired : tie.Need-sub-write-paired
-sub-write-paired c = omega arith
-
-part-write-paired-start : tie.Need-part-write-paired-start
-part-write-paired-start c = omega arith
 
 part-write-paired-end : tie.Need-part-write-paired-end
 part-write-paired-end c = inside (c .before) .2
@@ -156,18 +104,12 @@ slice-aggregate-write-seen-4 c = sym (blockers-used (going (entry (c .before .be
 write-seen-requires : tie.Need-write-seen-requires
 write-seen-requires c κs = seen-fits (going (entry (c .before .before .before .before .before .before)))
 
-same-length : tie.Need-same-length
-same-length c = c .before .before .write-paired .kept .1 .1 .0
-
 returns-2 : tie.Need-returns-2
 returns-2 c =
     let w = c .before .before in
     let t = w .before .before .before .before in
     let q = t .before in
     paired-listed (going (entry q)) (keyed q .key .result) (keyed q .key .ensures) (placed q .place .result) (placed q .place .ensures .1) (w .write-paired .last .1 .1 .0) (w .write-paired .result) (stood q true (t .if2 .taken)) (w .write-paired .ensures)
-
-same-length-2 : tie.Need-same-length-2
-same-length-2 c = c .before .before .write-seen .kept .1 .1 .1 .1 .1 .1 .1 .0
 
 returns-3 : tie.Need-returns-3
 returns-3 c =
@@ -180,28 +122,24 @@ pub visibility-from-spec : {M : Type 1} → statement M
 visibility-from-spec =
     tie.close
     (tie.spec
-    lacks-requires
-    lacks-requires-2
-    lacks-requires-3
-    lacks-requires-4
-    lacks-requires-5
-    lacks-requires-6
-    off-edge-requires
-    refuse-requires
-    refused-requires
+    (λ c κs. tt)
+    (λ c κs. tt)
+    (λ c κs. tt)
+    (λ c κs. tt)
+    (λ c κs. tt)
     returns
-    key-requires
+    (λ c κs. tt)
     slice-aggregate-place
-    place-requires
+    (λ c κs. tt)
     slice-aggregate-stands-at
-    stands-at-requires
+    (λ c κs. tt)
     slice-aggregate-write-paired
     mul-write-paired
     mul-write-paired-2
     add-write-paired
     mul-write-paired-3
-    sub-write-paired
-    part-write-paired-start
+    (λ c. omega arith)
+    (λ c. omega arith)
     part-write-paired-end
     write-paired-requires
     slice-aggregate-write-seen
@@ -209,7 +147,7 @@ visibility-from-spec =
     slice-aggregate-write-seen-3
     slice-aggregate-write-seen-4
     write-seen-requires
-    same-length
+    (λ c. c .before .before .write-paired .kept .1 .1 .0)
     returns-2
-    same-length-2
+    (λ c. c .before .before .write-seen .kept .1 .1 .1 .1 .1 .1 .1 .0)
     returns-3)

@@ -66,9 +66,6 @@ loop-again c =
     (λ w. rw (w .1, w .2) (marking-pass (a .points .now) (a .row .now) (a .out .now) (l .out) (l .n) (l .i) (l .inv) more (omega (arith, more, s .pre .0)) (w .0 .left)))
     (c .if1 .came)
 
-same-length : tie.Need-same-length Inv-loop μ-loop
-same-length c = c .before .loop .inv .grown .same
-
 returns : tie.Need-returns Inv-loop μ-loop
 returns c =
     let l = c .before .loop in
@@ -92,5 +89,5 @@ write-paired-spec =
     add-i
     loop-less
     loop-again
-    same-length
+    (λ c. c .before .loop .inv .grown .same)
     returns)

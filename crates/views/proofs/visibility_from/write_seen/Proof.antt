@@ -49,9 +49,6 @@ mul-is-seen-2 c = omega (arith, low (c .before .before) .0)
 shared-slice-read-is-seen-3 : tie.Need-shared-slice-read-is-seen-3 Inv-loop μ-loop
 shared-slice-read-is-seen-3 c = let t = c .before .before .before in omega (arith, start t .pre .1, t .loop-test .taken)
 
-is-seen-requires : tie.Need-is-seen-requires Inv-loop μ-loop
-is-seen-requires c κs = tt
-
 mul-out : tie.Need-mul-out Inv-loop μ-loop
 mul-out c = omega (arith, low (turn (c .before)) .0)
 
@@ -86,9 +83,6 @@ loop-again c =
     (λ w. rw (w .1, w .2) (seeing-pass (a .size) (a .radius) (a .cells .now) (a .points .now) (a .statuses .now) (a .blockers .now) (a .k) (a .out .now) (l .out) (l .n) (l .i) (l .inv) more (s .result) (s .ensures) (w .0 .left)))
     (c .if1 .came)
 
-same-length : tie.Need-same-length Inv-loop μ-loop
-same-length c = c .before .loop .inv .grown .same
-
 returns : tie.Need-returns Inv-loop μ-loop
 returns c =
     let l = c .before .loop in
@@ -108,7 +102,7 @@ write-seen-spec =
     shared-slice-read-is-seen-2
     mul-is-seen-2
     shared-slice-read-is-seen-3
-    is-seen-requires
+    (λ c κs. tt)
     mul-out
     shared-slice-read-out
     mul-out-2
@@ -117,5 +111,5 @@ write-seen-spec =
     add-i
     loop-less
     loop-again
-    same-length
+    (λ c. c .before .loop .inv .grown .same)
     returns)

@@ -5,12 +5,12 @@ use mathlib.Core.Logic.{⊎-elim, inl, inr}
 use mathlib.Core.Bool.{Bool, false}
 use lib.Dec.{ltb}
 use lib.Seq.{length-take-le}
+use Rattle.model.specs.Limits.{maxCells}
 use Rattle.model.specs.Refusal.{short}
-use Rattle.visibility.specs.Change.{Lent, lentNeeds, refuseBatch}
+use Rattle.visibility.specs.Change.{Lent, lentNeeds, lentOf, refuseBatch}
 use Rattle.held.specs.Holds as tables
 use Rattle.visibility.proofs.ChangeLaws.{Passed, batch-passed, crowded-refused, early-refused, packed-refused, short-either, updated}
 use Rattle.held.proofs.RoomLaws.{Enough, long-enough}
-use Rattle.visibility.proofs.UpdateLaws.{lentOf}
 use Rattle.visibility.proofs.change.change_cells.Statement.{statement}
 use Rattle.visibility.proofs.change.change_cells.Tie as tie
 
@@ -43,23 +43,23 @@ given p =
     let o = a .1 .1 .1 .1 .1 .1 in
     lentOf (a .0) (a .1 .0) (a .1 .1 .0) (a .1 .1 .1 .0) (a .1 .1 .1 .1 .0) (o .0) (o .1 .0) (o .1 .1 .0) (o .1 .1 .1 .0)
 
--- the refusal that is due by the input
+-- the refusal that applies by the input
 due : (j : tie.After-judge) →
     let a = start j .args in
-    j .judge .result ≡ refuseBatch (short (lentNeeds (lent (start j)))) (a .map) (a .batch .now) (ltb 1024 (a .map .cells)) false
+    j .judge .result ≡ refuseBatch (short (lentNeeds (lent (start j)))) (a .map) (a .batch .now) (ltb maxCells (a .map .cells)) false
 due j =
     let a = start j .args in
     let i = j .before in
     let o = i .before in
     let t = lent (start j) in
     j .judge .ensures
-    ∙ ap (λ (s : Bool). refuseBatch s (a .map) (a .batch .now) (ltb 1024 (a .map .cells)) false)
+    ∙ ap (λ (s : Bool). refuseBatch s (a .map) (a .batch .now) (ltb maxCells (a .map .cells)) false)
     (short-either (tables.needs (t .tables)) _ (o .before .short-tables .result) (o .short-outputs .result) (i .if1 .short) (o .before .short-tables .ensures) (o .short-outputs .ensures)
     (⊎-elim (λ w. inl (w .0 .taken, w .1)) (λ w. inr (w .0 .left, w .1)) (i .if1 .came)))
 
 none : (c : tie.Else2) →
     let a = start (c .before) .args in
-    0 ≡ refuseBatch (short (lentNeeds (lent (start (c .before))))) (a .map) (a .batch .now) (ltb 1024 (a .map .cells)) false
+    0 ≡ refuseBatch (short (lentNeeds (lent (start (c .before))))) (a .map) (a .batch .now) (ltb maxCells (a .map .cells)) false
 none c = sym (c .if2 .left) ∙ due (c .before)
 
 passed : (c : tie.Else2) →
@@ -71,18 +71,6 @@ passed c =
 
 long : (c : tie.Else2) → Enough (lentNeeds (lent (start (c .before))))
 long c = long-enough (lentNeeds (lent (start (c .before)))) (passed c .long)
-
-short-tables-requires : tie.Need-short-tables-requires
-short-tables-requires c κs = tt
-
-short-outputs-requires : tie.Need-short-outputs-requires
-short-outputs-requires c κs = tt
-
-judge-requires : tie.Need-judge-requires
-judge-requires c κs = tt
-
-refused-requires : tie.Need-refused-requires
-refused-requires c κs = tt
 
 returns : tie.Need-returns
 returns c =
@@ -104,27 +92,12 @@ slice-aggregate-count-after c =
     let s = passed e .small in
     sym (length-take-le (a .map .cells) (a .cells .now) (omega (arith, l, s)))
 
-count-after-requires : tie.Need-count-after-requires
-count-after-requires c κs = tt
-
-refused-requires-2 : tie.Need-refused-requires-2
-refused-requires-2 c κs = tt
-
-same-length : tie.Need-same-length
-same-length c = refl
-
 returns-2 : tie.Need-returns-2
 returns-2 c =
     let k = c .before .before in
     let e = entry k in
     let a = start (e .before) .args in
     crowded-refused (a .map) (a .batch .now) (lent (start (e .before))) _ (c .refused2 .result) (none e) (k .count-after .result) (k .count-after .ensures) (c .before .if3 .taken) (c .refused2 .ensures) refl
-
-refused-requires-3 : tie.Need-refused-requires-3
-refused-requires-3 c κs = tt
-
-same-length-2 : tie.Need-same-length-2
-same-length-2 c = refl
 
 returns-3 : tie.Need-returns-3
 returns-3 c =
@@ -143,33 +116,6 @@ update-requires c κs =
     let o = n .1 .1 .1 .1 .1 in
     (q .small, n .0, f .if4 .left, n .1 .0, n .1 .1 .0, n .1 .1 .1 .0, q .few, o .0, o .1 .0, o .1 .1 .0, o .1 .1 .1 .0)
 
-same-length-3 : tie.Need-same-length-3
-same-length-3 c = ended c .update .kept .1 .0
-
-same-length-4 : tie.Need-same-length-4
-same-length-4 c = ended c .update .kept .1 .1 .0
-
-same-length-5 : tie.Need-same-length-5
-same-length-5 c = ended c .update .kept .1 .1 .1 .0
-
-same-length-6 : tie.Need-same-length-6
-same-length-6 c = ended c .update .kept .1 .1 .1 .1 .0
-
-same-length-7 : tie.Need-same-length-7
-same-length-7 c = ended c .update .kept .1 .1 .1 .1 .1 .0
-
-same-length-8 : tie.Need-same-length-8
-same-length-8 c = ended c .update .kept .1 .1 .1 .1 .1 .1 .1 .0
-
-same-length-9 : tie.Need-same-length-9
-same-length-9 c = ended c .update .kept .1 .1 .1 .1 .1 .1 .1 .1 .0
-
-same-length-10 : tie.Need-same-length-10
-same-length-10 c = ended c .update .kept .1 .1 .1 .1 .1 .1 .1 .1 .1 .0
-
-same-length-11 : tie.Need-same-length-11
-same-length-11 c = ended c .update .kept .1 .1 .1 .1 .1 .1 .1 .1 .1 .1 .0
-
 returns-4 : tie.Need-returns-4
 returns-4 c =
     let y = ended c in
@@ -184,28 +130,28 @@ pub change-cells-spec : {M : Type 1} → statement M
 change-cells-spec =
     tie.close
     (tie.spec
-    short-tables-requires
-    short-outputs-requires
-    judge-requires
-    refused-requires
+    (λ c κs. tt)
+    (λ c κs. tt)
+    (λ c κs. tt)
+    (λ c κs. tt)
     returns
     slice-reshare-prefix-count-after
     slice-aggregate-count-after
-    count-after-requires
-    refused-requires-2
-    same-length
+    (λ c κs. tt)
+    (λ c κs. tt)
+    (λ c. refl)
     returns-2
-    refused-requires-3
-    same-length-2
+    (λ c κs. tt)
+    (λ c. refl)
     returns-3
     update-requires
-    same-length-3
-    same-length-4
-    same-length-5
-    same-length-6
-    same-length-7
-    same-length-8
-    same-length-9
-    same-length-10
-    same-length-11
+    (λ c. ended c .update .kept .1 .0)
+    (λ c. ended c .update .kept .1 .1 .0)
+    (λ c. ended c .update .kept .1 .1 .1 .0)
+    (λ c. ended c .update .kept .1 .1 .1 .1 .0)
+    (λ c. ended c .update .kept .1 .1 .1 .1 .1 .0)
+    (λ c. ended c .update .kept .1 .1 .1 .1 .1 .1 .1 .0)
+    (λ c. ended c .update .kept .1 .1 .1 .1 .1 .1 .1 .1 .0)
+    (λ c. ended c .update .kept .1 .1 .1 .1 .1 .1 .1 .1 .1 .0)
+    (λ c. ended c .update .kept .1 .1 .1 .1 .1 .1 .1 .1 .1 .1 .0)
     returns-4)

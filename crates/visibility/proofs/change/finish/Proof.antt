@@ -6,6 +6,7 @@ use mathlib.Core.Logic.{⊎-elim}
 use mathlib.Core.List.{_++_}
 use lib.ListN.{drop, length}
 use lib.Seq.{length-take-le}
+use Rattle.model.specs.Limits.{maxCells}
 use Rattle.visibility.proofs.FinishLaws.{finished, kept-long}
 use borrow.Author.Needs.{needs}
 use Rattle.visibility.proofs.change.finish.Statement.{statement}
@@ -22,21 +23,15 @@ abbrev drawn : tie.After-slice-known14 → tie.After-redraw
 drawn p = p .before .before .before .before .before .before .before .before
 
 -- the count, cut down to the table's places, is within it
-used-inside : (c : tie.Joined1) → c .if1 .used ≤ length (cut c .commit .last .0 ++ drop 1024 (start (cut c .before .before) .args .cells .now))
+used-inside : (c : tie.Joined1) → c .if1 .used ≤ length (cut c .commit .last .0 ++ drop maxCells (start (cut c .before .before) .args .cells .now))
 used-inside c =
     let p = start (cut c .before .before) in
-    let few : c .if1 .used ≤ 1024 = ⊎-elim (λ w. omega arith) (λ w. omega arith) (c .if1 .came) in
+    let few : c .if1 .used ≤ maxCells = ⊎-elim (λ w. omega arith) (λ w. omega arith) (c .if1 .came) in
     let long = kept-long (cut c .commit .last .0) (p .args .cells .now) (p .pre .0) (cut c .commit .kept .0) in
     omega (arith, few, long)
 
-slice-relend-prefix-commit : tie.Need-slice-relend-prefix-commit
-slice-relend-prefix-commit c = search needs
-
 slice-aggregate-commit : tie.Need-slice-aggregate-commit
-slice-aggregate-commit c = let a = start (c .before) .args in sym (length-take-le 1024 (a .cells .now) (omega arith))
-
-commit-requires : tie.Need-commit-requires
-commit-requires c κs = search needs
+slice-aggregate-commit c = let a = start (c .before) .args in sym (length-take-le maxCells (a .cells .now) (omega arith))
 
 slice-reshare-prefix-redraw : tie.Need-slice-reshare-prefix-redraw
 slice-reshare-prefix-redraw c = used-inside c
@@ -44,49 +39,7 @@ slice-reshare-prefix-redraw c = used-inside c
 slice-aggregate-redraw : tie.Need-slice-aggregate-redraw
 slice-aggregate-redraw c =
     let d = c .before in
-    sym (length-take-le (d .if1 .used) (cut d .commit .last .0 ++ drop 1024 (start (cut d .before .before) .args .cells .now)) (used-inside d))
-
-redraw-requires : tie.Need-redraw-requires
-redraw-requires c κs = search needs
-
-copy-requires : tie.Need-copy-requires
-copy-requires c κs = search needs
-
-copy-bytes-requires : tie.Need-copy-bytes-requires
-copy-bytes-requires c κs = search needs
-
-copy-requires-2 : tie.Need-copy-requires-2
-copy-requires-2 c κs = search needs
-
-copy-bytes-requires-2 : tie.Need-copy-bytes-requires-2
-copy-bytes-requires-2 c κs = search needs
-
-same-length : tie.Need-same-length
-same-length c = search needs
-
-same-length-2 : tie.Need-same-length-2
-same-length-2 c = search needs
-
-same-length-3 : tie.Need-same-length-3
-same-length-3 c = search needs
-
-same-length-4 : tie.Need-same-length-4
-same-length-4 c = search needs
-
-same-length-5 : tie.Need-same-length-5
-same-length-5 c = search needs
-
-same-length-6 : tie.Need-same-length-6
-same-length-6 c = search needs
-
-same-length-7 : tie.Need-same-length-7
-same-length-7 c = search needs
-
-same-length-8 : tie.Need-same-length-8
-same-length-8 c = search needs
-
-same-length-9 : tie.Need-same-length-9
-same-length-9 c = search needs
+    sym (length-take-le (d .if1 .used) (cut d .commit .last .0 ++ drop maxCells (start (cut d .before .before) .args .cells .now)) (used-inside d))
 
 returns : tie.Need-returns
 returns c =
@@ -103,8 +56,8 @@ returns c =
     let g = d .redraw .last .1 .1 .1 .1 .1 .1 .1 .1 .1 .1 in (
       refl,
       λ M l at f hc hf hn ha. finished f (k .commit .last .0) (k .commit .result) (j .if1 .used) (k .commit .ensures) (λ h. ⊎-elim (λ w. absurd (omega arith)) (λ w. w .1) (j .if1 .came))
-          (g .0) (g .1 .0) (g .1 .1 .0) (g .1 .1 .1 .0) (a .near) at (d .redraw .ensures)
-          (a .confirmed .now) (x .copy .last .1 .0) (a .full .now) (y .copy-bytes .last .1 .0) (a .corners .now) (v .copy2 .last .1 .0) (a .altered .now) (z .copy-bytes2 .last .1 .0)
+          (g .0) (g .1 .0) (g .1 .1 .0) (g .1 .1 .1 .0) (a .reach) at (d .redraw .ensures)
+          (a .out-confirmed .now) (x .copy .last .1 .0) (a .out-full .now) (y .copy-bytes .last .1 .0) (a .out-corners .now) (v .copy2 .last .1 .0) (a .out-altered .now) (z .copy-bytes2 .last .1 .0)
           hc hf hn ha (x .copy .ensures) (y .copy-bytes .ensures) (v .copy2 .ensures) (z .copy-bytes2 .ensures),
     )
 
@@ -112,23 +65,23 @@ pub finish-spec : {M : Type 1} → statement M
 finish-spec =
     tie.close
     (tie.spec
-    slice-relend-prefix-commit
+    (λ c. search needs)
     slice-aggregate-commit
-    commit-requires
+    (λ c κs. search needs)
     slice-reshare-prefix-redraw
     slice-aggregate-redraw
-    redraw-requires
-    copy-requires
-    copy-bytes-requires
-    copy-requires-2
-    copy-bytes-requires-2
-    same-length
-    same-length-2
-    same-length-3
-    same-length-4
-    same-length-5
-    same-length-6
-    same-length-7
-    same-length-8
-    same-length-9
+    (λ c κs. search needs)
+    (λ c κs. search needs)
+    (λ c κs. search needs)
+    (λ c κs. search needs)
+    (λ c κs. search needs)
+    (λ c. search needs)
+    (λ c. search needs)
+    (λ c. search needs)
+    (λ c. search needs)
+    (λ c. search needs)
+    (λ c. search needs)
+    (λ c. search needs)
+    (λ c. search needs)
+    (λ c. search needs)
     returns)

@@ -4,11 +4,8 @@ use borrow.Author.Needs.{needs}
 use Rattle.visibility.proofs.change.refused.Statement.{statement}
 use Rattle.visibility.proofs.change.refused.Tie as tie
 
-no-map-requires : tie.Need-no-map-requires
-no-map-requires c κs = search needs
-
 returns : tie.Need-returns
 returns c = rw (c .no-map .ensures) refl
 
 pub refused-spec : {M : Type 1} → statement M
-refused-spec = tie.close (tie.spec no-map-requires returns)
+refused-spec = tie.close (tie.spec (λ c κs. search needs) returns)

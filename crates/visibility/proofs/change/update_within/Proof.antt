@@ -6,8 +6,8 @@ use lib.ListN.{replicate}
 use lib.Seq.{length-take-le}
 use Rattle.limits.specs.Batches.{entries}
 use Rattle.model.specs.Limits.{maxPoints}
-use Rattle.visibility.specs.Change.{Lent}
-use Rattle.visibility.proofs.UpdateLaws.{lentOf, reaches, update-finished, update-refused}
+use Rattle.visibility.specs.Change.{Lent, lentOf}
+use Rattle.visibility.proofs.UpdateLaws.{reaches, update-finished, update-refused}
 use Rattle.visibility.proofs.change.update_within.Statement.{statement}
 use Rattle.visibility.proofs.change.update_within.Tie as tie
 
@@ -34,25 +34,13 @@ planned p = planning (fitting p .before)
 abbrev lent : tie.Start → Lent
 lent s =
     let a = s .args in
-    lentOf (a .cells .now) (a .points .now) (a .statuses .now) (a .blockers .now) (a .pairs .now) (a .confirmed .now) (a .full .now) (a .corners .now) (a .altered .now)
+    lentOf (a .cells .now) (a .points .now) (a .statuses .now) (a .blockers .now) (a .pairs .now) (a .out-confirmed .now) (a .out-full .now) (a .out-corners .now) (a .out-altered .now)
 
 work-out-requires : tie.Need-work-out-requires
 work-out-requires c κs =
     let s = c .before .before .before .before .before .before .before .before .before .before .before .before .before .before .before .before .before .before .before .before in
     let w = s .pre in
     (le-trans (w .0) (w .1), le-trans (w .2) (w .3), le-trans (w .2) (w .4), w .6, w .7, w .8, refl {a = replicate {A = ℕ} maxPoints 0}, refl {a = replicate {A = ℕ} maxPoints 0})
-
-refused-requires : tie.Need-refused-requires
-refused-requires c κs = tt
-
-same-length : tie.Need-same-length
-same-length c = refl
-
-same-length-2 : tie.Need-same-length-2
-same-length-2 c = refl
-
-same-length-3 : tie.Need-same-length-3
-same-length-3 c = refl
 
 same-length-4 : tie.Need-same-length-4
 same-length-4 c = planning (c .before .before) .work-out .kept .1 .1 .1 .1 .1 .1 .1 .0
@@ -66,29 +54,29 @@ returns c =
     let s = start p in
     update-refused (s .args .map) (entries (s .args .batch .now)) (lent s) (p .work-out .ensures .6 (s .args .blockers .now) (s .args .pairs .now)) (c .refused .result) (c .before .if1 .taken) (c .refused .ensures)
 
-array-share-prefix-turned : tie.Need-array-share-prefix-turned
-array-share-prefix-turned c = planned c .work-out .ensures .0
+array-share-prefix-confirmed : tie.Need-array-share-prefix-confirmed
+array-share-prefix-confirmed c = planned c .work-out .ensures .0
 
 slice-aggregate-finish : tie.Need-slice-aggregate-finish
-slice-aggregate-finish c = let p = planned (c .before) in sym (length-take-le (p .work-out .result .changes) (p .work-out .last .1 .1 .1 .1 .1 .0) (p .work-out .ensures .0))
+slice-aggregate-finish c = let p = planned (c .before) in sym (length-take-le (p .work-out .result .confirmed) (p .work-out .last .1 .1 .1 .1 .1 .0) (p .work-out .ensures .0))
 
-array-share-prefix-says : tie.Need-array-share-prefix-says
-array-share-prefix-says c = planned (c .before) .work-out .ensures .1
+array-share-prefix-full : tie.Need-array-share-prefix-full
+array-share-prefix-full c = planned (c .before) .work-out .ensures .1
 
 slice-aggregate-finish-2 : tie.Need-slice-aggregate-finish-2
-slice-aggregate-finish-2 c = let p = planned (c .before .before) in sym (length-take-le (p .work-out .result .changes) (p .work-out .last .1 .1 .1 .1 .1 .1 .0) (p .work-out .ensures .1))
+slice-aggregate-finish-2 c = let p = planned (c .before .before) in sym (length-take-le (p .work-out .result .confirmed) (p .work-out .last .1 .1 .1 .1 .1 .1 .0) (p .work-out .ensures .1))
 
 slice-reshare-prefix-finish : tie.Need-slice-reshare-prefix-finish
 slice-reshare-prefix-finish c = planned (c .before .before) .work-out .ensures .2
 
 slice-aggregate-finish-3 : tie.Need-slice-aggregate-finish-3
-slice-aggregate-finish-3 c = let p = planned (c .before .before .before) in sym (length-take-le (p .work-out .result .altered) (p .work-out .last .1 .1 .1 .1 .1 .1 .1 .0) (p .work-out .ensures .2))
+slice-aggregate-finish-3 c = let p = planned (c .before .before .before) in sym (length-take-le (p .work-out .result .corners) (p .work-out .last .1 .1 .1 .1 .1 .1 .1 .0) (p .work-out .ensures .2))
 
 slice-reshare-prefix-finish-2 : tie.Need-slice-reshare-prefix-finish-2
 slice-reshare-prefix-finish-2 c = planned (c .before .before .before) .work-out .ensures .3
 
 slice-aggregate-finish-4 : tie.Need-slice-aggregate-finish-4
-slice-aggregate-finish-4 c = let p = planned (c .before .before .before .before) in sym (length-take-le (p .work-out .result .altered) (p .work-out .last .1 .1 .1 .1 .1 .1 .1 .1 .0) (p .work-out .ensures .3))
+slice-aggregate-finish-4 c = let p = planned (c .before .before .before .before) in sym (length-take-le (p .work-out .result .corners) (p .work-out .last .1 .1 .1 .1 .1 .1 .1 .1 .0) (p .work-out .ensures .3))
 
 slice-aggregate-finish-5 : tie.Need-slice-aggregate-finish-5
 slice-aggregate-finish-5 c = sym (planned (c .before .before .before .before .before) .work-out .ensures .4)
@@ -103,40 +91,13 @@ finish-requires c κs =
     let q = p .work-out .ensures in
     let l = p .work-out .last .1 .1 .1 .1 .1 .1 .1 .1 .1 in
     let w = start p .pre in
-    (w .1, fitting e .if1 .left, reaches (l .0) (q .4) (le-refl 64), reaches (l .1 .0) (q .5) (le-refl 64), le-trans (w .2) (w .5))
-
-same-length-6 : tie.Need-same-length-6
-same-length-6 c = ended c .finish .kept .1 .0
-
-same-length-7 : tie.Need-same-length-7
-same-length-7 c = ended c .finish .kept .1 .1 .0
-
-same-length-8 : tie.Need-same-length-8
-same-length-8 c = ended c .finish .kept .1 .1 .1 .0
-
-same-length-9 : tie.Need-same-length-9
-same-length-9 c = ended c .finish .kept .1 .1 .1 .1 .0
-
-same-length-10 : tie.Need-same-length-10
-same-length-10 c = ended c .finish .kept .1 .1 .1 .1 .1 .0
+    (w .1, fitting e .if1 .left, reaches (l .0) (q .4) (le-refl maxPoints), reaches (l .1 .0) (q .5) (le-refl maxPoints), le-trans (w .2) (w .5))
 
 same-length-11 : tie.Need-same-length-11
 same-length-11 c = planned (handing (ended c .before)) .work-out .kept .1 .1 .1 .1 .1 .1 .1 .0
 
 same-length-12 : tie.Need-same-length-12
 same-length-12 c = planned (handing (ended c .before)) .work-out .kept .1 .1 .1 .1 .1 .1 .1 .1 .0
-
-same-length-13 : tie.Need-same-length-13
-same-length-13 c = ended c .finish .kept .1 .1 .1 .1 .1 .1 .1 .1 .1 .1 .1 .1 .1 .1 .0
-
-same-length-14 : tie.Need-same-length-14
-same-length-14 c = ended c .finish .kept .1 .1 .1 .1 .1 .1 .1 .1 .1 .1 .1 .1 .1 .1 .1 .0
-
-same-length-15 : tie.Need-same-length-15
-same-length-15 c = ended c .finish .kept .1 .1 .1 .1 .1 .1 .1 .1 .1 .1 .1 .1 .1 .1 .1 .1 .0
-
-same-length-16 : tie.Need-same-length-16
-same-length-16 c = ended c .finish .kept .1 .1 .1 .1 .1 .1 .1 .1 .1 .1 .1 .1 .1 .1 .1 .1 .1 .0
 
 returns-2 : tie.Need-returns-2
 returns-2 c =
@@ -156,16 +117,16 @@ update-within-spec =
     tie.close
     (tie.spec
     work-out-requires
-    refused-requires
-    same-length
-    same-length-2
-    same-length-3
+    (λ c κs. tt)
+    (λ c. refl)
+    (λ c. refl)
+    (λ c. refl)
     same-length-4
     same-length-5
     returns
-    array-share-prefix-turned
+    array-share-prefix-confirmed
     slice-aggregate-finish
-    array-share-prefix-says
+    array-share-prefix-full
     slice-aggregate-finish-2
     slice-reshare-prefix-finish
     slice-aggregate-finish-3
@@ -174,15 +135,15 @@ update-within-spec =
     slice-aggregate-finish-5
     slice-aggregate-finish-6
     finish-requires
-    same-length-6
-    same-length-7
-    same-length-8
-    same-length-9
-    same-length-10
+    (λ c. ended c .finish .kept .1 .0)
+    (λ c. ended c .finish .kept .1 .1 .0)
+    (λ c. ended c .finish .kept .1 .1 .1 .0)
+    (λ c. ended c .finish .kept .1 .1 .1 .1 .0)
+    (λ c. ended c .finish .kept .1 .1 .1 .1 .1 .0)
     same-length-11
     same-length-12
-    same-length-13
-    same-length-14
-    same-length-15
-    same-length-16
+    (λ c. ended c .finish .kept .1 .1 .1 .1 .1 .1 .1 .1 .1 .1 .1 .1 .1 .1 .0)
+    (λ c. ended c .finish .kept .1 .1 .1 .1 .1 .1 .1 .1 .1 .1 .1 .1 .1 .1 .1 .0)
+    (λ c. ended c .finish .kept .1 .1 .1 .1 .1 .1 .1 .1 .1 .1 .1 .1 .1 .1 .1 .1 .0)
+    (λ c. ended c .finish .kept .1 .1 .1 .1 .1 .1 .1 .1 .1 .1 .1 .1 .1 .1 .1 .1 .1 .0)
     returns-2)

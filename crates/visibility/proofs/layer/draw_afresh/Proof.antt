@@ -17,20 +17,11 @@ start p = p .before .before .before .before .before .before .before .before .bef
 abbrev drawn : tie.After-slice-known7 → tie.After-draw-points
 drawn p = p .before .before .before .before .before .before
 
-draw-points-requires : tie.Need-draw-points-requires
-draw-points-requires c κs = search needs
-
-greater-requires : tie.Need-greater-requires
-greater-requires c κs = search needs
-
 slice-aggregate-draw-pairs : tie.Need-slice-aggregate-draw-pairs
-slice-aggregate-draw-pairs c = let s = start (drawn (c .before .before)) in sym (length-take-le (s .args .n) (s .args .ks .now) (omega (arith, s .pre)))
+slice-aggregate-draw-pairs c = let s = start (drawn (c .before .before)) in sym (length-take-le (s .args .n) (s .args .present .now) (omega (arith, s .pre)))
 
 slice-aggregate-draw-pairs-2 : tie.Need-slice-aggregate-draw-pairs-2
 slice-aggregate-draw-pairs-2 c = let s = start (drawn (c .before .before .before)) in sym (length-take-le (s .args .n) (s .args .moods .now) (omega (arith, s .pre)))
-
-slice-aggregate-draw-pairs-3 : tie.Need-slice-aggregate-draw-pairs-3
-slice-aggregate-draw-pairs-3 c = search needs
 
 draw-pairs-requires : tie.Need-draw-pairs-requires
 draw-pairs-requires c κs =
@@ -38,18 +29,6 @@ draw-pairs-requires c κs =
     let s = start (drawn (g .before)) in
     let h = g .greater .ensures .2 64 (s .pre .0) (s .pre .1) in
     omega (arith, h, s .pre .4)
-
-same-length : tie.Need-same-length
-same-length c = search needs
-
-same-length-2 : tie.Need-same-length-2
-same-length-2 c = search needs
-
-same-length-3 : tie.Need-same-length-3
-same-length-3 c = search needs
-
-same-length-4 : tie.Need-same-length-4
-same-length-4 c = search needs
 
 returns : tie.Need-returns
 returns c =
@@ -59,10 +38,10 @@ returns c =
     let s = start d in
     let a = s .args in
     let h = g .greater .ensures in
-    λ ch S P Q near w none rows.
-    let v = seen (tests (a .size) (a .radius)) (a .cells .now) ch S [] (a .turned .now) (a .full .now) (a .ks .now) (a .moods .now) (a .points .now) (a .statuses .now) (a .blockers .now) (a .n) 0 w in
+    λ ch S P Q at w none rows.
+    let v = seen (tests (a .size) (a .radius)) (a .cells .now) ch S [] (a .confirmed .now) (a .full .now) (a .present .now) (a .moods .now) (a .points .now) (a .statuses .now) (a .blockers .now) (a .n) 0 w in
     record {
-      drawn = d .draw-points .ensures ch S [] near w;
+      drawn = d .draw-points .ensures ch S [] at w;
       filled = p .draw-pairs .ensures ch S P Q v (omega (arith, w .number, h .0)) (none-pairs P none) (none-named P none)
           (rows-more (a .before) Q (a .pairs .now) rows (g .greater .result) (h .1) (h .2 64 (s .pre .0) (s .pre .1)));
     }
@@ -71,14 +50,14 @@ pub draw-afresh-spec : {M : Type 1} → statement M
 draw-afresh-spec =
     tie.close
     (tie.spec
-    draw-points-requires
-    greater-requires
+    (λ c κs. search needs)
+    (λ c κs. search needs)
     slice-aggregate-draw-pairs
     slice-aggregate-draw-pairs-2
-    slice-aggregate-draw-pairs-3
+    (λ c. search needs)
     draw-pairs-requires
-    same-length
-    same-length-2
-    same-length-3
-    same-length-4
+    (λ c. search needs)
+    (λ c. search needs)
+    (λ c. search needs)
+    (λ c. search needs)
     returns)

@@ -13,23 +13,8 @@ use Rattle.visibility.proofs.layer.draw_pairs.Tie as tie
 abbrev start : tie.After-slice-known → tie.Start
 start p = p .before .before .before .before .before .before .before
 
-mul-used : tie.Need-mul-used
-mul-used c = search needs
-
-slice-relend-prefix-clear : tie.Need-slice-relend-prefix-clear
-slice-relend-prefix-clear c = search needs
-
 slice-aggregate-clear : tie.Need-slice-aggregate-clear
 slice-aggregate-clear c = let s = start (c .before) in sym (length-take-le (64 * s .args .rows) (s .args .pairs .now) (s .pre .1))
-
-clear-requires : tie.Need-clear-requires
-clear-requires c κs = search needs
-
-join-pairs-requires : tie.Need-join-pairs-requires
-join-pairs-requires c κs = search needs
-
-same-length : tie.Need-same-length
-same-length c = search needs
 
 returns : tie.Need-returns
 returns c = λ ch S P Q seeing few pairs named w.
@@ -43,10 +28,10 @@ pub draw-pairs-spec : {M : Type 1} → statement M
 draw-pairs-spec =
     tie.close
     (tie.spec
-    mul-used
-    slice-relend-prefix-clear
+    (λ c. search needs)
+    (λ c. search needs)
     slice-aggregate-clear
-    clear-requires
-    join-pairs-requires
-    same-length
+    (λ c κs. search needs)
+    (λ c κs. search needs)
+    (λ c. search needs)
     returns)

@@ -15,10 +15,10 @@ use Rattle.visibility.proofs.layer.draw_points.Tie as tie
 abbrev start : tie.After-slice-known3 → tie.Start
 start p = p .before .before .before .before .before .before .before .before
 
-abbrev first : tie.After-bits2 → tie.After-slice-known3
+abbrev first : tie.After-new-statuses2 → tie.After-slice-known3
 first p = p .before .before .before .before
 
-abbrev second : tie.After-blocks3 → tie.After-bits2
+abbrev second : tie.After-new-blockers2 → tie.After-new-statuses2
 second p = p .before .before .before .before .before .before
 
 fits : (n : ℕ) (l : List ℕ) → n ≤ length l → n ≡ length (take n l)
@@ -27,9 +27,6 @@ fits n l h = sym (length-take-le n l h)
 slice-aggregate-write-statuses : tie.Need-slice-aggregate-write-statuses
 slice-aggregate-write-statuses c = let s = start (c .before) in fits (s .args .n) (s .args .moods .now) (omega (arith, s .pre))
 
-slice-aggregate-write-statuses-2 : tie.Need-slice-aggregate-write-statuses-2
-slice-aggregate-write-statuses-2 c = search needs
-
 write-statuses-requires : tie.Need-write-statuses-requires
 write-statuses-requires c κs =
     let s = start (c .before .before) in
@@ -37,46 +34,13 @@ write-statuses-requires c κs =
     omega (arith, s .pre, e)
 
 slice-aggregate-block-points : tie.Need-slice-aggregate-block-points
-slice-aggregate-block-points c = let s = start (first (c .before)) in fits (s .args .n) (s .args .ks .now) (omega (arith, s .pre))
+slice-aggregate-block-points c = let s = start (first (c .before)) in fits (s .args .n) (s .args .present .now) (omega (arith, s .pre))
 
 slice-aggregate-block-points-2 : tie.Need-slice-aggregate-block-points-2
 slice-aggregate-block-points-2 c = let s = start (first (c .before .before)) in fits (s .args .n) (s .args .moods .now) (omega (arith, s .pre))
 
-slice-reshare-prefix-block-points : tie.Need-slice-reshare-prefix-block-points
-slice-reshare-prefix-block-points c = search needs
-
 slice-aggregate-block-points-3 : tie.Need-slice-aggregate-block-points-3
 slice-aggregate-block-points-3 c = let s = start (first (c .before .before .before)) in fits (s .args .count) (s .args .blockers .now) (s .pre .3)
-
-slice-aggregate-block-points-4 : tie.Need-slice-aggregate-block-points-4
-slice-aggregate-block-points-4 c = search needs
-
-block-points-requires : tie.Need-block-points-requires
-block-points-requires c κs = search needs
-
-copy-requires : tie.Need-copy-requires
-copy-requires c κs = search needs
-
-slice-aggregate-copy-bytes : tie.Need-slice-aggregate-copy-bytes
-slice-aggregate-copy-bytes c = search needs
-
-copy-bytes-requires : tie.Need-copy-bytes-requires
-copy-bytes-requires c κs = search needs
-
-slice-aggregate-copy : tie.Need-slice-aggregate-copy
-slice-aggregate-copy c = search needs
-
-copy-requires-2 : tie.Need-copy-requires-2
-copy-requires-2 c κs = search needs
-
-same-length : tie.Need-same-length
-same-length c = search needs
-
-same-length-2 : tie.Need-same-length-2
-same-length-2 c = search needs
-
-same-length-3 : tie.Need-same-length-3
-same-length-3 c = search needs
 
 returns : tie.Need-returns
 returns c =
@@ -87,12 +51,12 @@ returns c =
     let b = l .before in
     let f = second l .before in
     let a = start (first (second l)) .args in
-    λ ch S B near d.
+    λ ch S B at d.
     let t = tests (a .size) (a .radius) in
-    let v = seen t (a .cells .now) ch S B (a .turned .now) (a .full .now) (a .ks .now) (a .moods .now) (a .points .now) (a .statuses .now) (a .blockers .now) (a .n) (a .count) d in
-    drawn t (a .cells .now) ch S B (a .turned .now) (a .full .now) (a .ks .now) (a .moods .now) (a .points .now) (a .statuses .now) (a .blockers .now) (a .n) (a .count) d
+    let v = seen t (a .cells .now) ch S B (a .confirmed .now) (a .full .now) (a .present .now) (a .moods .now) (a .points .now) (a .statuses .now) (a .blockers .now) (a .n) (a .count) d in
+    drawn t (a .cells .now) ch S B (a .confirmed .now) (a .full .now) (a .present .now) (a .moods .now) (a .points .now) (a .statuses .now) (a .blockers .now) (a .n) (a .count) d
     (f .write-statuses .last .1 .0) (b .block-points .last .1 .1 .1 .1 .1 .1 .1 .1 .1 .0) (w0 .copy .last .1 .0) (w1 .copy-bytes .last .1 .0) (w2 .copy2 .last .1 .0)
-    (f .write-statuses .ensures) (b .block-points .ensures ch S B v near (d .blocks) (d .blocksNamed) (rw (length-replicate {A = ℕ} 64 0) (d .few)))
+    (f .write-statuses .ensures) (b .block-points .ensures ch S B v at (d .blocks) (d .blocksNamed) (rw (length-replicate {A = ℕ} 64 0) (d .few)))
     (w0 .copy .ensures) (w1 .copy-bytes .ensures) (w2 .copy2 .ensures)
 
 pub draw-points-spec : {M : Type 1} → statement M
@@ -100,20 +64,20 @@ draw-points-spec =
     tie.close
     (tie.spec
     slice-aggregate-write-statuses
-    slice-aggregate-write-statuses-2
+    (λ c. search needs)
     write-statuses-requires
     slice-aggregate-block-points
     slice-aggregate-block-points-2
-    slice-reshare-prefix-block-points
+    (λ c. search needs)
     slice-aggregate-block-points-3
-    slice-aggregate-block-points-4
-    block-points-requires
-    copy-requires
-    slice-aggregate-copy-bytes
-    copy-bytes-requires
-    slice-aggregate-copy
-    copy-requires-2
-    same-length
-    same-length-2
-    same-length-3
+    (λ c. search needs)
+    (λ c κs. search needs)
+    (λ c κs. search needs)
+    (λ c. search needs)
+    (λ c κs. search needs)
+    (λ c. search needs)
+    (λ c κs. search needs)
+    (λ c. search needs)
+    (λ c. search needs)
+    (λ c. search needs)
     returns)

@@ -15,11 +15,8 @@ start p = p .before .before .before .before .before .before .before .before .bef
 abbrev drawn : tie.After-slice-known7 → tie.After-draw-points
 drawn p = p .before .before .before .before .before .before
 
-draw-points-requires : tie.Need-draw-points-requires
-draw-points-requires c κs = search needs
-
 slice-aggregate-redraw-pairs : tie.Need-slice-aggregate-redraw-pairs
-slice-aggregate-redraw-pairs c = let s = start (drawn (c .before)) in sym (length-take-le (s .args .n) (s .args .ks .now) (omega (arith, s .pre)))
+slice-aggregate-redraw-pairs c = let s = start (drawn (c .before)) in sym (length-take-le (s .args .n) (s .args .present .now) (omega (arith, s .pre)))
 
 slice-aggregate-redraw-pairs-2 : tie.Need-slice-aggregate-redraw-pairs-2
 slice-aggregate-redraw-pairs-2 c = let s = start (drawn (c .before .before)) in sym (length-take-le (s .args .n) (s .args .moods .now) (omega (arith, s .pre)))
@@ -27,40 +24,28 @@ slice-aggregate-redraw-pairs-2 c = let s = start (drawn (c .before .before)) in 
 redraw-pairs-requires : tie.Need-redraw-pairs-requires
 redraw-pairs-requires c κs =
     let s = start (drawn (c .before .before .before)) in
-    let e = length-take-le (s .args .n) (s .args .ks .now) (omega (arith, s .pre)) in
+    let e = length-take-le (s .args .n) (s .args .present .now) (omega (arith, s .pre)) in
     omega (arith, s .pre, e)
-
-same-length : tie.Need-same-length
-same-length c = search needs
-
-same-length-2 : tie.Need-same-length-2
-same-length-2 c = search needs
-
-same-length-3 : tie.Need-same-length-3
-same-length-3 c = search needs
-
-same-length-4 : tie.Need-same-length-4
-same-length-4 c = search needs
 
 returns : tie.Need-returns
 returns c =
     let p = c .before .before in
     let d = drawn (p .before .before .before .before) in
     let a = start d .args in
-    λ ch S B P near w named rows.
-    let v = seen (tests (a .size) (a .radius)) (a .cells .now) ch S B (a .turned .now) (a .full .now) (a .ks .now) (a .moods .now) (a .points .now) (a .statuses .now) (a .blockers .now) (a .n) (a .count) w in
-    record { drawn = d .draw-points .ensures ch S B near w; filled = p .redraw-pairs .ensures ch S P v named rows }
+    λ ch S B P at w named rows.
+    let v = seen (tests (a .size) (a .radius)) (a .cells .now) ch S B (a .confirmed .now) (a .full .now) (a .present .now) (a .moods .now) (a .points .now) (a .statuses .now) (a .blockers .now) (a .n) (a .count) w in
+    record { drawn = d .draw-points .ensures ch S B at w; filled = p .redraw-pairs .ensures ch S P v named rows }
 
 pub redraw-spec : {M : Type 1} → statement M
 redraw-spec =
     tie.close
     (tie.spec
-    draw-points-requires
+    (λ c κs. search needs)
     slice-aggregate-redraw-pairs
     slice-aggregate-redraw-pairs-2
     redraw-pairs-requires
-    same-length
-    same-length-2
-    same-length-3
-    same-length-4
+    (λ c. search needs)
+    (λ c. search needs)
+    (λ c. search needs)
+    (λ c. search needs)
     returns)

@@ -11,15 +11,6 @@ returns c = λ ch S P seeing named w.
     let a = c .before .before .before .before .before .before .before .args in
     absurd (⊎-elim (λ t. omega (arith, t .taken, w .room)) (λ t. let h = ltb-true 64 (a .count) (t .1 .taken) in omega (arith, h, w .rows)) (c .if1 .came))
 
-slice-aggregate-replace-pairs : tie.Need-slice-aggregate-replace-pairs
-slice-aggregate-replace-pairs c = search needs
-
-replace-pairs-requires : tie.Need-replace-pairs-requires
-replace-pairs-requires c κs = search needs
-
-slice-aggregate-replace-pairs-2 : tie.Need-slice-aggregate-replace-pairs-2
-slice-aggregate-replace-pairs-2 c = search needs
-
 replace-pairs-requires-2 : tie.Need-replace-pairs-requires-2
 replace-pairs-requires-2 c κs =
     let e = c .before .before .before in
@@ -27,28 +18,16 @@ replace-pairs-requires-2 c κs =
     let h = ltb-false 64 (s .args .count) (e .if2 .left) in
     omega (arith, h, s .pre, e .before .if1 .left)
 
-same-length : tie.Need-same-length
-same-length c = search needs
-
-returns-2 : tie.Need-returns-2
-returns-2 c = search needs
-
-same-length-2 : tie.Need-same-length-2
-same-length-2 c = search needs
-
-returns-3 : tie.Need-returns-3
-returns-3 c = search needs
-
 pub redraw-pairs-spec : {M : Type 1} → statement M
 redraw-pairs-spec =
     tie.close
     (tie.spec
     returns
-    slice-aggregate-replace-pairs
-    replace-pairs-requires
-    slice-aggregate-replace-pairs-2
+    (λ c. search needs)
+    (λ c κs. search needs)
+    (λ c. search needs)
     replace-pairs-requires-2
-    same-length
-    returns-2
-    same-length-2
-    returns-3)
+    (λ c. search needs)
+    (λ c. search needs)
+    (λ c. search needs)
+    (λ c. search needs))

@@ -15,17 +15,8 @@ start p = p .before .before .before .before .before .before .before
 abbrev ranked : tie.After-greater → tie.After-copy
 ranked p = p .before .before .before
 
-slice-reshare-prefix-copy : tie.Need-slice-reshare-prefix-copy
-slice-reshare-prefix-copy c = search needs
-
 slice-aggregate-copy : tie.Need-slice-aggregate-copy
 slice-aggregate-copy c = let s = start (c .before) in sym (length-take-le (length (s .args .kept .now)) (s .args .pairs .now) (s .pre .3))
-
-copy-requires : tie.Need-copy-requires
-copy-requires c κs = search needs
-
-greater-requires : tie.Need-greater-requires
-greater-requires c κs = search needs
 
 draw-pairs-requires : tie.Need-draw-pairs-requires
 draw-pairs-requires c κs =
@@ -33,12 +24,6 @@ draw-pairs-requires c κs =
     let s = start (ranked g .before .before .before) in
     let h = g .greater .ensures .2 64 (s .pre .0) (s .pre .1) in
     omega (arith, h, s .pre .4)
-
-same-length : tie.Need-same-length
-same-length c = search needs
-
-same-length-2 : tie.Need-same-length-2
-same-length-2 c = search needs
 
 returns : tie.Need-returns
 returns c = λ ch S P seeing named w.
@@ -55,11 +40,11 @@ pub replace-pairs-spec : {M : Type 1} → statement M
 replace-pairs-spec =
     tie.close
     (tie.spec
-    slice-reshare-prefix-copy
+    (λ c. search needs)
     slice-aggregate-copy
-    copy-requires
-    greater-requires
+    (λ c κs. search needs)
+    (λ c κs. search needs)
     draw-pairs-requires
-    same-length
-    same-length-2
+    (λ c. search needs)
+    (λ c. search needs)
     returns)

@@ -1,10 +1,12 @@
--- `open::open`: the first refusal that is due, or cleared tables. Assumes nothing.
+-- `open::open`: the first refusal that applies, or cleared tables. Assumes nothing.
 use mathlib.Core.Path.{_≡_, sym, _∙_}
 use mathlib.Core.Bool.{false}
 use lib.Seq.{length-take-le}
 use borrow.Author.Needs.{needs}
+use Rattle.held.specs.Pairs.{pairPlaces}
+use Rattle.model.specs.Limits.{maxCells, maxPoints}
 use Rattle.model.specs.Refusal.{badSize, short}
-use Rattle.held.specs.Holds.{Tables}
+use Rattle.held.specs.Holds.{Tables, tablesOf}
 use Rattle.held.specs.Holds as tables
 use Rattle.held.proofs.RoomLaws.{Enough, long-enough}
 use Rattle.visibility.proofs.OpenLaws.{open-done, open-radius, open-refused, open-short, open-size}
@@ -35,7 +37,7 @@ fifth p = p .before .before .before .before
 
 -- the tables as they are lent, and what the tests say of them
 abbrev lent : tie.Start → Tables
-lent s = let a = s .args in record { cells = a .cells .now; points = a .points .now; statuses = a .statuses .now; blockers = a .blockers .now; pairs = a .pairs .now }
+lent s = let a = s .args in tablesOf (a .cells .now) (a .points .now) (a .statuses .now) (a .blockers .now) (a .pairs .now)
 
 judged : (p : tie.After-short-tables) → short (tables.needs (lent (start p))) ≡ p .short-tables .result
 judged p = sym (p .short-tables .ensures)
@@ -52,12 +54,6 @@ given p = lent (start (entry p .before))
 room : (p : tie.Else3) → Enough (tables.needs (given p))
 room p = long-enough (tables.needs (given p)) (long (entry p))
 
-short-tables-requires : tie.Need-short-tables-requires
-short-tables-requires c κs = search needs
-
-refused-requires : tie.Need-refused-requires
-refused-requires c κs = search needs
-
 returns : tie.Need-returns
 returns c =
     let p = c .before .before in
@@ -65,24 +61,12 @@ returns c =
     let l = lent s in
     open-refused (s .args .size) (s .args .radius) l 8 (c .refused .result) (c .refused .ensures) (open-short (tables.needs l) (s .args .size) (s .args .radius) (judged p ∙ c .before .if1 .taken))
 
-bad-size-requires : tie.Need-bad-size-requires
-bad-size-requires c κs = search needs
-
-refused-requires-2 : tie.Need-refused-requires-2
-refused-requires-2 c κs = search needs
-
 returns-2 : tie.Need-returns-2
 returns-2 c =
     let p = c .before .before in
     let s = start (p .before .before) in
     let l = lent s in
     open-refused (s .args .size) (s .args .radius) l 0 (c .refused2 .result) (c .refused2 .ensures) (open-size (tables.needs l) (s .args .size) (s .args .radius) (long (p .before)) (sym (p .bad-size .ensures) ∙ c .before .if2 .taken))
-
-bad-radius-requires : tie.Need-bad-radius-requires
-bad-radius-requires c κs = search needs
-
-refused-requires-3 : tie.Need-refused-requires-3
-refused-requires-3 c κs = search needs
 
 returns-3 : tie.Need-returns-3
 returns-3 c =
@@ -96,61 +80,31 @@ slice-relend-prefix-clear : tie.Need-slice-relend-prefix-clear
 slice-relend-prefix-clear c = room c .0
 
 slice-aggregate-clear : tie.Need-slice-aggregate-clear
-slice-aggregate-clear c = let p = c .before in sym (length-take-le 1024 (given p .cells) (room p .0))
-
-clear-requires : tie.Need-clear-requires
-clear-requires c κs = search needs
+slice-aggregate-clear c = let p = c .before in sym (length-take-le maxCells (given p .cells) (room p .0))
 
 slice-relend-prefix-clear-2 : tie.Need-slice-relend-prefix-clear-2
 slice-relend-prefix-clear-2 c = room (first c) .1 .0
 
 slice-aggregate-clear-2 : tie.Need-slice-aggregate-clear-2
-slice-aggregate-clear-2 c = let p = first (c .before) in sym (length-take-le 64 (given p .points) (room p .1 .0))
-
-clear-requires-2 : tie.Need-clear-requires-2
-clear-requires-2 c κs = search needs
+slice-aggregate-clear-2 c = let p = first (c .before) in sym (length-take-le maxPoints (given p .points) (room p .1 .0))
 
 slice-relend-prefix-clear-bytes : tie.Need-slice-relend-prefix-clear-bytes
 slice-relend-prefix-clear-bytes c = room (first (second c)) .1 .1 .0
 
 slice-aggregate-clear-bytes : tie.Need-slice-aggregate-clear-bytes
-slice-aggregate-clear-bytes c = let p = first (second (c .before)) in sym (length-take-le 64 (given p .statuses) (room p .1 .1 .0))
-
-clear-bytes-requires : tie.Need-clear-bytes-requires
-clear-bytes-requires c κs = search needs
+slice-aggregate-clear-bytes c = let p = first (second (c .before)) in sym (length-take-le maxPoints (given p .statuses) (room p .1 .1 .0))
 
 slice-relend-prefix-clear-3 : tie.Need-slice-relend-prefix-clear-3
 slice-relend-prefix-clear-3 c = room (first (second (third c))) .1 .1 .1 .0
 
 slice-aggregate-clear-3 : tie.Need-slice-aggregate-clear-3
-slice-aggregate-clear-3 c = let p = first (second (third (c .before))) in sym (length-take-le 64 (given p .blockers) (room p .1 .1 .1 .0))
-
-clear-requires-3 : tie.Need-clear-requires-3
-clear-requires-3 c κs = search needs
+slice-aggregate-clear-3 c = let p = first (second (third (c .before))) in sym (length-take-le maxPoints (given p .blockers) (room p .1 .1 .1 .0))
 
 slice-relend-prefix-clear-4 : tie.Need-slice-relend-prefix-clear-4
 slice-relend-prefix-clear-4 c = room (first (second (third (fourth c)))) .1 .1 .1 .1 .0
 
 slice-aggregate-clear-4 : tie.Need-slice-aggregate-clear-4
-slice-aggregate-clear-4 c = let p = first (second (third (fourth (c .before)))) in sym (length-take-le 4096 (given p .pairs) (room p .1 .1 .1 .1 .0))
-
-clear-requires-4 : tie.Need-clear-requires-4
-clear-requires-4 c κs = search needs
-
-same-length : tie.Need-same-length
-same-length c = search needs
-
-same-length-2 : tie.Need-same-length-2
-same-length-2 c = search needs
-
-same-length-3 : tie.Need-same-length-3
-same-length-3 c = search needs
-
-same-length-4 : tie.Need-same-length-4
-same-length-4 c = search needs
-
-same-length-5 : tie.Need-same-length-5
-same-length-5 c = search needs
+slice-aggregate-clear-4 c = let p = first (second (third (fourth (c .before)))) in sym (length-take-le pairPlaces (given p .pairs) (room p .1 .1 .1 .1 .0))
 
 returns-4 : tie.Need-returns-4
 returns-4 c =
@@ -169,33 +123,33 @@ pub open-spec : {M : Type 1} → statement M
 open-spec =
     tie.close
     (tie.spec
-    short-tables-requires
-    refused-requires
+    (λ c κs. search needs)
+    (λ c κs. search needs)
     returns
-    bad-size-requires
-    refused-requires-2
+    (λ c κs. search needs)
+    (λ c κs. search needs)
     returns-2
-    bad-radius-requires
-    refused-requires-3
+    (λ c κs. search needs)
+    (λ c κs. search needs)
     returns-3
     slice-relend-prefix-clear
     slice-aggregate-clear
-    clear-requires
+    (λ c κs. search needs)
     slice-relend-prefix-clear-2
     slice-aggregate-clear-2
-    clear-requires-2
+    (λ c κs. search needs)
     slice-relend-prefix-clear-bytes
     slice-aggregate-clear-bytes
-    clear-bytes-requires
+    (λ c κs. search needs)
     slice-relend-prefix-clear-3
     slice-aggregate-clear-3
-    clear-requires-3
+    (λ c κs. search needs)
     slice-relend-prefix-clear-4
     slice-aggregate-clear-4
-    clear-requires-4
-    same-length
-    same-length-2
-    same-length-3
-    same-length-4
-    same-length-5
+    (λ c κs. search needs)
+    (λ c. search needs)
+    (λ c. search needs)
+    (λ c. search needs)
+    (λ c. search needs)
+    (λ c. search needs)
     returns-4)

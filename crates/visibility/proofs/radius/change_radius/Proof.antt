@@ -1,12 +1,13 @@
--- `radius::change_radius`: the refusal that is due, or the layer built afresh for the radius. Assumes nothing.
+-- `radius::change_radius`: the refusal that applies, or the layer built anew for the radius. Assumes nothing.
 use Prim.Native.Nat.{_≤_}
 use native.Mathlib.Omega.{arith}
 use mathlib.Core.Path.{_≡_, refl, sym, _∙_}
 use lib.ListN.{length, take}
 use lib.Seq.{length-take-le}
 use borrow.Author.Needs.{needs}
+use Rattle.model.specs.Limits.{maxCells, maxPoints}
 use Rattle.model.specs.Refusal.{short}
-use Rattle.held.specs.Holds.{Tables}
+use Rattle.held.specs.Holds.{Tables, tablesOf}
 use Rattle.held.specs.Holds as tables
 use Rattle.visibility.specs.Radius.{refuseRadius}
 use Rattle.visibility.proofs.RebuildLaws.{rebuild-cells, rebuild-done, rebuild-input, rebuild-packed, rebuild-points, rebuild-room}
@@ -31,7 +32,7 @@ marked p = p .before .before .before .before
 
 -- the tables as they are lent, and what the tests say of them
 abbrev lent : tie.Start → Tables
-lent s = let a = s .args in record { cells = a .cells .now; points = a .points .now; statuses = a .statuses .now; blockers = a .blockers .now; pairs = a .pairs .now }
+lent s = let a = s .args in tablesOf (a .cells .now) (a .points .now) (a .statuses .now) (a .blockers .now) (a .pairs .now)
 
 number : (p : tie.After-judge) → let s = start p in p .judge .result ≡ refuseRadius (short (tables.needs (lent s))) (s .args .map) (s .args .radius)
 number p = rw (← p .before .short-tables .ensures) (p .judge .ensures)
@@ -39,7 +40,7 @@ number p = rw (← p .before .short-tables .ensures) (p .judge .ensures)
 passes : (p : tie.Else1) → let s = start (p .before) in refuseRadius (short (tables.needs (lent s))) (s .args .map) (s .args .radius) ≡ 0
 passes p = sym (number (p .before)) ∙ p .if1 .left
 
-few : (p : tie.Else1) → start (p .before) .args .map .cells ≤ 1024
+few : (p : tie.Else1) → start (p .before) .args .map .cells ≤ maxCells
 few p = let s = start (p .before) in rebuild-cells (s .args .map) (s .args .radius) (lent s) (passes p)
 
 -- the used cells, and the corners found among them
@@ -49,23 +50,14 @@ used p =
     let r = rebuild-room (s .args .map) (s .args .radius) (lent s) (passes p) .0 in
     length-take-le (s .args .map .cells) (s .args .cells .now) (omega (arith, few p, r))
 
-found : (p : tie.After-corner-cells) → p .corner-cells .result ≤ 1024
+found : (p : tie.After-corner-cells) → p .corner-cells .result ≤ maxCells
 found p = let q = entry p in omega (arith, p .corner-cells .ensures .3, used q, few q)
 
 inCorners : (p : tie.After-corner-cells) → p .corner-cells .result ≤ length (p .corner-cells .last .1 .0)
-inCorners p = let e : length (p .corner-cells .last .1 .0) ≡ 1024 = p .corner-cells .kept .1 .0 in omega (arith, found p, e)
+inCorners p = let e : length (p .corner-cells .last .1 .0) ≡ maxCells = p .corner-cells .kept .1 .0 in omega (arith, found p, e)
 
-inBits : (p : tie.After-corner-cells) → p .corner-cells .result ≤ length (p .corner-cells .last .1 .1 .0)
-inBits p = let e : length (p .corner-cells .last .1 .1 .0) ≡ 1024 = p .corner-cells .kept .1 .1 .0 in omega (arith, found p, e)
-
-short-tables-requires : tie.Need-short-tables-requires
-short-tables-requires c κs = search needs
-
-judge-requires : tie.Need-judge-requires
-judge-requires c κs = search needs
-
-refused-requires : tie.Need-refused-requires
-refused-requires c κs = search needs
+inAltered : (p : tie.After-corner-cells) → p .corner-cells .result ≤ length (p .corner-cells .last .1 .1 .0)
+inAltered p = let e : length (p .corner-cells .last .1 .1 .0) ≡ maxCells = p .corner-cells .kept .1 .1 .0 in omega (arith, found p, e)
 
 returns : tie.Need-returns
 returns c =
@@ -76,59 +68,17 @@ returns c =
 slice-aggregate-corner-cells : tie.Need-slice-aggregate-corner-cells
 slice-aggregate-corner-cells c = sym (used (c .before))
 
-slice-aggregate-corner-cells-2 : tie.Need-slice-aggregate-corner-cells-2
-slice-aggregate-corner-cells-2 c = search needs
-
-slice-aggregate-corner-cells-3 : tie.Need-slice-aggregate-corner-cells-3
-slice-aggregate-corner-cells-3 c = search needs
-
-corner-cells-requires : tie.Need-corner-cells-requires
-corner-cells-requires c κs = search needs
-
-shift-of-requires : tie.Need-shift-of-requires
-shift-of-requires c κs = search needs
-
-slice-reshare-prefix-mark-points : tie.Need-slice-reshare-prefix-mark-points
-slice-reshare-prefix-mark-points c = search needs
-
-slice-aggregate-mark-points : tie.Need-slice-aggregate-mark-points
-slice-aggregate-mark-points c = search needs
-
-slice-reshare-prefix-mark-points-2 : tie.Need-slice-reshare-prefix-mark-points-2
-slice-reshare-prefix-mark-points-2 c = search needs
-
-slice-aggregate-mark-points-2 : tie.Need-slice-aggregate-mark-points-2
-slice-aggregate-mark-points-2 c = search needs
-
 array-share-prefix-corners : tie.Need-array-share-prefix-corners
 array-share-prefix-corners c = inCorners (c .before .before .before .before .before)
 
 slice-aggregate-mark-points-3 : tie.Need-slice-aggregate-mark-points-3
 slice-aggregate-mark-points-3 c = let p = c .before .before .before .before .before .before in sym (length-take-le (p .corner-cells .result) (p .corner-cells .last .1 .0) (inCorners p))
 
-array-share-prefix-bits : tie.Need-array-share-prefix-bits
-array-share-prefix-bits c = inBits (c .before .before .before .before .before .before)
+array-share-prefix-altered : tie.Need-array-share-prefix-altered
+array-share-prefix-altered c = inAltered (c .before .before .before .before .before .before)
 
 slice-aggregate-mark-points-4 : tie.Need-slice-aggregate-mark-points-4
-slice-aggregate-mark-points-4 c = let p = c .before .before .before .before .before .before .before in sym (length-take-le (p .corner-cells .result) (p .corner-cells .last .1 .1 .0) (inBits p))
-
-slice-aggregate-mark-points-5 : tie.Need-slice-aggregate-mark-points-5
-slice-aggregate-mark-points-5 c = search needs
-
-slice-aggregate-mark-points-6 : tie.Need-slice-aggregate-mark-points-6
-slice-aggregate-mark-points-6 c = search needs
-
-mark-points-requires : tie.Need-mark-points-requires
-mark-points-requires c κs = search needs
-
-refused-requires-2 : tie.Need-refused-requires-2
-refused-requires-2 c κs = search needs
-
-same-length : tie.Need-same-length
-same-length c = search needs
-
-same-length-2 : tie.Need-same-length-2
-same-length-2 c = search needs
+slice-aggregate-mark-points-4 c = let p = c .before .before .before .before .before .before .before in sym (length-take-le (p .corner-cells .result) (p .corner-cells .last .1 .1 .0) (inAltered p))
 
 returns-2 : tie.Need-returns-2
 returns-2 c =
@@ -137,29 +87,8 @@ returns-2 c =
     let s = start (entry k .before) in
     rebuild-packed (s .args .map) (s .args .radius) (lent s) (passes (entry k)) (k .corner-cells .ensures .0) (shifted m .shift-of .ensures) (m .mark-points .ensures) (c .refused2 .result) (c .before .if2 .taken) (c .refused2 .ensures)
 
-reach-of-requires : tie.Need-reach-of-requires
-reach-of-requires c κs = search needs
-
 slice-aggregate-draw-afresh : tie.Need-slice-aggregate-draw-afresh
 slice-aggregate-draw-afresh c = sym (used (entry (cornered (marked (c .before)))))
-
-array-share-prefix-corners-2 : tie.Need-array-share-prefix-corners-2
-array-share-prefix-corners-2 c = search needs
-
-slice-aggregate-draw-afresh-2 : tie.Need-slice-aggregate-draw-afresh-2
-slice-aggregate-draw-afresh-2 c = search needs
-
-array-share-prefix-bits-2 : tie.Need-array-share-prefix-bits-2
-array-share-prefix-bits-2 c = search needs
-
-slice-aggregate-draw-afresh-3 : tie.Need-slice-aggregate-draw-afresh-3
-slice-aggregate-draw-afresh-3 c = search needs
-
-slice-aggregate-draw-afresh-4 : tie.Need-slice-aggregate-draw-afresh-4
-slice-aggregate-draw-afresh-4 c = search needs
-
-slice-aggregate-draw-afresh-5 : tie.Need-slice-aggregate-draw-afresh-5
-slice-aggregate-draw-afresh-5 c = search needs
 
 draw-afresh-requires : tie.Need-draw-afresh-requires
 draw-afresh-requires c κs =
@@ -169,26 +98,14 @@ draw-afresh-requires c κs =
     let s = start (e .before) in
     let list = m .mark-points .last .1 .1 .1 .1 .1 in
     let kept = m .mark-points .kept .1 .1 .1 .1 .1 in
-    let keys : length (list .0) ≡ 64 = kept .0 in
-    let moods : length (list .1 .0) ≡ 64 = kept .1 .0 in (
+    let keys : length (list .0) ≡ maxPoints = kept .0 in
+    let moods : length (list .1 .0) ≡ maxPoints = kept .1 .0 in (
       n .before .if2 .left,
       rebuild-points (s .args .map) (s .args .radius) (lent s) (passes e),
       omega (arith, keys),
       omega (arith, moods),
       rebuild-room (s .args .map) (s .args .radius) (lent s) (passes e) .1 .1 .1 .1 .0,
     )
-
-same-length-3 : tie.Need-same-length-3
-same-length-3 c = search needs
-
-same-length-4 : tie.Need-same-length-4
-same-length-4 c = search needs
-
-same-length-5 : tie.Need-same-length-5
-same-length-5 c = search needs
-
-same-length-6 : tie.Need-same-length-6
-same-length-6 c = search needs
 
 returns-3 : tie.Need-returns-3
 returns-3 c =
@@ -199,47 +116,47 @@ returns-3 c =
     let s = start (entry k .before) in
     let z = d .draw-afresh .last .1 .1 .1 .1 .1 .1 .1 .1 .1 .1 in
     rebuild-done (s .args .map) (s .args .radius) (lent s) (passes (entry k)) (k .corner-cells .ensures .0) (shifted m .shift-of .ensures) (m .mark-points .ensures)
-    (record { cells = s .args .cells .now; points = z .0; statuses = z .1 .0; blockers = z .1 .1 .0; pairs = z .1 .1 .1 .0 }) (n .reach-of .result) refl (n .before .if2 .left) (n .reach-of .ensures) (d .draw-afresh .ensures)
+    (tablesOf (s .args .cells .now) (z .0) (z .1 .0) (z .1 .1 .0) (z .1 .1 .1 .0)) (n .reach-of .result) refl (n .before .if2 .left) (n .reach-of .ensures) (d .draw-afresh .ensures)
 
 pub change-radius-spec : {M : Type 1} → statement M
 change-radius-spec =
     tie.close
     (tie.spec
-    short-tables-requires
-    judge-requires
-    refused-requires
+    (λ c κs. search needs)
+    (λ c κs. search needs)
+    (λ c κs. search needs)
     returns
     slice-aggregate-corner-cells
-    slice-aggregate-corner-cells-2
-    slice-aggregate-corner-cells-3
-    corner-cells-requires
-    shift-of-requires
-    slice-reshare-prefix-mark-points
-    slice-aggregate-mark-points
-    slice-reshare-prefix-mark-points-2
-    slice-aggregate-mark-points-2
+    (λ c. search needs)
+    (λ c. search needs)
+    (λ c κs. search needs)
+    (λ c κs. search needs)
+    (λ c. search needs)
+    (λ c. search needs)
+    (λ c. search needs)
+    (λ c. search needs)
     array-share-prefix-corners
     slice-aggregate-mark-points-3
-    array-share-prefix-bits
+    array-share-prefix-altered
     slice-aggregate-mark-points-4
-    slice-aggregate-mark-points-5
-    slice-aggregate-mark-points-6
-    mark-points-requires
-    refused-requires-2
-    same-length
-    same-length-2
+    (λ c. search needs)
+    (λ c. search needs)
+    (λ c κs. search needs)
+    (λ c κs. search needs)
+    (λ c. search needs)
+    (λ c. search needs)
     returns-2
-    reach-of-requires
+    (λ c κs. search needs)
     slice-aggregate-draw-afresh
-    array-share-prefix-corners-2
-    slice-aggregate-draw-afresh-2
-    array-share-prefix-bits-2
-    slice-aggregate-draw-afresh-3
-    slice-aggregate-draw-afresh-4
-    slice-aggregate-draw-afresh-5
+    (λ c. search needs)
+    (λ c. search needs)
+    (λ c. search needs)
+    (λ c. search needs)
+    (λ c. search needs)
+    (λ c. search needs)
     draw-afresh-requires
-    same-length-3
-    same-length-4
-    same-length-5
-    same-length-6
+    (λ c. search needs)
+    (λ c. search needs)
+    (λ c. search needs)
+    (λ c. search needs)
     returns-3)

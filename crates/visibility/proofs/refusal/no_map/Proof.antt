@@ -1,4 +1,4 @@
--- `map::no_map` is all zero. Assumes nothing.
+-- `refusal::no_map` is all zero. Assumes nothing.
 use mathlib.Core.Path.{refl}
 use lib.Ieee.{ofBits}
 use Rattle.visibility.proofs.refusal.no_map.Statement.{statement}

@@ -1,14 +1,11 @@
--- `map::refused` is the number, and zeros. Assumes nothing.
+-- `refusal::refused` is the number, and zeros. Assumes nothing.
 use mathlib.Core.Path.{refl}
 use borrow.Author.Needs.{needs}
 use Rattle.visibility.proofs.refusal.refused.Statement.{statement}
 use Rattle.visibility.proofs.refusal.refused.Tie as tie
 
-no-map-requires : tie.Need-no-map-requires
-no-map-requires c κs = search needs
-
 returns : tie.Need-returns
 returns c = rw (c .no-map .ensures) refl
 
 pub refused-spec : {M : Type 1} → statement M
-refused-spec = tie.close (tie.spec no-map-requires returns)
+refused-spec = tie.close (tie.spec (λ c κs. search needs) returns)

@@ -1,4 +1,4 @@
--- `input::move_down` meets its contract: the bytes passed stand in front, and the others are where they were (Down.antt). Assumes nothing.
+-- `input::move_down` meets its contract: the bytes that were passed are at the front, and the others are where they were (Down.antt). Assumes nothing.
 use Prim.Native.Nat.{_-_, _≤_}
 use native.Mathlib.Omega.{arith}
 use mathlib.Core.Path.{_≡_, refl}
@@ -20,21 +20,6 @@ loop-holds c =
     let e : c .args .from - c .args .from ≡ 0 = omega arith in
     (omega arith, omega arith, refl, rw e)
 
-slice-read-buffer : tie.Need-slice-read-buffer Inv-loop μ-loop
-slice-read-buffer c = omega arith
-
-sub-buffer : tie.Need-sub-buffer Inv-loop μ-loop
-sub-buffer c = omega arith
-
-slice-write-buffer : tie.Need-slice-write-buffer Inv-loop μ-loop
-slice-write-buffer c = omega arith
-
-add-i : tie.Need-add-i Inv-loop μ-loop
-add-i c = omega arith
-
-loop-less : tie.Need-loop-less Inv-loop μ-loop
-loop-less c = omega arith
-
 loop-again : tie.Need-loop-again Inv-loop μ-loop
 loop-again c = (
   omega arith,
@@ -42,9 +27,6 @@ loop-again c = (
   simp length-set (c .before .before .loop .inv .2),
   down-more _ _ _ _ (omega arith) (omega arith) (c .before .before .loop .inv .3),
 )
-
-same-length : tie.Need-same-length Inv-loop μ-loop
-same-length c = c .before .loop .inv .2
 
 returns : tie.Need-returns Inv-loop μ-loop
 returns c =
@@ -58,11 +40,11 @@ move-down-spec =
     Inv-loop
     μ-loop
     loop-holds
-    slice-read-buffer
-    sub-buffer
-    slice-write-buffer
-    add-i
-    loop-less
+    (λ c. omega arith)
+    (λ c. omega arith)
+    (λ c. omega arith)
+    (λ c. omega arith)
+    (λ c. omega arith)
     loop-again
-    same-length
+    (λ c. c .before .loop .inv .2)
     returns)

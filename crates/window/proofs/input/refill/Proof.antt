@@ -6,14 +6,8 @@ use borrow.Author.Needs.{needs}
 use Rattle.window.proofs.input.refill.Statement.{statement}
 use Rattle.window.proofs.input.refill.Tie as tie
 
-nowhere-requires : tie.Need-nowhere-requires
-nowhere-requires c κs = search needs
-
 returns : tie.Need-returns
 returns c = refused _ _ _ (λ h. omega arith) (c .nowhere .ensures)
-
-nowhere-requires-2 : tie.Need-nowhere-requires-2
-nowhere-requires-2 c κs = search needs
 
 returns-2 : tie.Need-returns-2
 returns-2 c = refused _ _ _ (λ h. omega arith) (c .nowhere2 .ensures)
@@ -24,15 +18,6 @@ returns-3 c = unchanged _ _ (omega arith) (inl (c .if3 .taken))
 returns-4 : tie.Need-returns-4
 returns-4 c = unchanged _ _ (omega arith) (inr (c .if4 .taken))
 
-move-down-requires : tie.Need-move-down-requires
-move-down-requires c κs = search needs
-
-fill-requires : tie.Need-fill-requires
-fill-requires c κs = search needs
-
-same-length : tie.Need-same-length
-same-length c = search needs
-
 returns-5 : tie.Need-returns-5
 returns-5 c = filled _ _ _ _ _ (omega arith) (c .before .before .before .before .before .before .before .before .before .if3 .left) (omega arith) (omega arith) (c .before .before .before .before .before .before .move-down .ensures) (c .before .before .fill .ensures)
 
@@ -40,13 +25,13 @@ pub refill-spec : {M : Type 1} → statement M
 refill-spec =
     tie.close
     (tie.spec
-    nowhere-requires
+    (λ c κs. search needs)
     returns
-    nowhere-requires-2
+    (λ c κs. search needs)
     returns-2
     returns-3
     returns-4
-    move-down-requires
-    fill-requires
-    same-length
+    (λ c κs. search needs)
+    (λ c κs. search needs)
+    (λ c. search needs)
     returns-5)

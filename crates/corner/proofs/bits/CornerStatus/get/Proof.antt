@@ -5,11 +5,8 @@ use Rattle.corner.proofs.StatusLaws.{got-is}
 use Rattle.corner.proofs.bits.CornerStatus.get.Statement.{statement}
 use Rattle.corner.proofs.bits.CornerStatus.get.Tie as tie
 
-bit-requires : tie.Need-bit-requires
-bit-requires c κs = search needs
-
 returns : tie.Need-returns
 returns c = λ b e. rw (c .before .bit .ensures, e) (got-is (dir (c .before .before .args .corner)) b)
 
 pub get-spec : {M : Type 1} → statement M
-get-spec = tie.close (tie.spec bit-requires returns)
+get-spec = tie.close (tie.spec (λ c κs. search needs) returns)

@@ -5,9 +5,6 @@ use Rattle.corner.proofs.StatusLaws.{cleared-is, marked-is}
 use Rattle.corner.proofs.bits.CornerStatus.set.Statement.{statement}
 use Rattle.corner.proofs.bits.CornerStatus.set.Tie as tie
 
-bit-requires : tie.Need-bit-requires
-bit-requires c κs = search needs
-
 returns : tie.Need-returns
 returns c =
     let p = c .before .before .before in
@@ -19,4 +16,4 @@ returns-2 c =
     λ b e. rw (p .bit .ensures, e, c .if1 .left) (cleared-is (dir (p .before .args .corner)) b)
 
 pub set-spec : {M : Type 1} → statement M
-set-spec = tie.close (tie.spec bit-requires returns returns-2)
+set-spec = tie.close (tie.spec (λ c κs. search needs) returns returns-2)

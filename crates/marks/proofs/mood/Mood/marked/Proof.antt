@@ -18,35 +18,13 @@ use Rattle.marks.proofs.mood.Mood.marked.Lts as lts
 use Rattle.corner.proofs.bits.CornerStatus.is_corner.Reads as is-corner-reads
 use Rattle.corner.proofs.bits.CornerStatus.set.Reads as set-reads
 
--- src/mood.rt:43:13
-set-requires : tie.Need-set-requires
-set-requires c κs = search needs
-
--- src/mood.rt:45:13
-is-corner-requires : tie.Need-is-corner-requires
-is-corner-requires c κs = search needs
-
--- src/mood.rt:48:13
-is-corner-requires-2 : tie.Need-is-corner-requires-2
-is-corner-requires-2 c κs = search needs
-
--- src/mood.rt:50:23
-is-corner-requires-3 : tie.Need-is-corner-requires-3
-is-corner-requires-3 c κs = search needs
-
--- src/mood.rt:54:21
-add-first : tie.Need-add-first
-add-first c = search needs
-
--- src/mood.rt:38:5
-
 abbrev start : tie.Joined2 → tie.Start
 start j = j .before .before .before .before .before
 
 status : (j : tie.Joined2) → j .before .before .before .before .set .result .bits < 16
 status j =
     let a = start j .args in
-    let b = number-of (a .self .bits) (start j .pre .0) in
+    let b = number-of (a .self .status) (start j .pre .0) in
     rw (j .before .before .before .before .set .ensures (b .0) (b .1)) (number-small (setBit (dir (a .corner)) (a .on) (b .0)))
 
 -- what is known where the marks' effects are joined
@@ -57,19 +35,19 @@ abbrev Marked : tie.Joined2 → ℕ → Type 0
 Marked j f =
     let a = start j .args in
     (w : Standing) (k : ℕ) → a .self ≡ mood w
-    → _≡_ {A = Mood} (record { bits = j .before .before .before .before .set .result .bits; old = j .before .before .if1 .old; first = f }) (mood (marked (a .n) (record { dir = dir (a .corner); at = k; on = a .on }) w))
+    → _≡_ {A = Mood} (record { status = j .before .before .before .before .set .result .bits; old = j .before .before .if1 .old; first = f }) (mood (marked (a .n) (record { dir = dir (a .corner); at = k; on = a .on }) w))
 
 joined : (j : tie.Joined2) (f : ℕ) → f ≡ cond (j .if2 .queues) (cond (eqb (start j .args .self .first) 0) (suc (start j .args .n)) (start j .args .self .first)) (start j .args .self .first) → Marked j f
 joined j f h =
     λ w k e.
     let a = start j .args in
     let b = setBit (dir (a .corner)) (a .on) (w .bits) in
-    let was : a .self .bits ≡ number (w .bits) = ap (λ (m : Mood). m .bits) e in
+    let was : a .self .status ≡ number (w .bits) = ap (λ (m : Mood). m .status) e in
     let is = j .before .before .before .before .set .ensures (w .bits) was in
     let some = j .before .before .before .is-corner .ensures b is in
     let t = j .before .before .before .is-corner .result in
     let o = j .before .before .if1 .old in
-    marked-is (a .n) (dir (a .corner)) k (a .on) w (record { bits = j .before .before .before .before .set .result .bits; old = j .before .before .if1 .old; first = f }) (j .if2 .queues) is
+    marked-is (a .n) (dir (a .corner)) k (a .on) w (record { status = j .before .before .before .before .set .result .bits; old = j .before .before .if1 .old; first = f }) (j .if2 .queues) is
     (⊎-elim (λ u. old-gone b t (w .old) o some (u .0 .taken) (u .1)) (λ u. old-stays b t (w .old) o some (u .0 .left) (u .1 ∙ ap (λ (m : Mood). m .old) e)) (j .before .before .if1 .came))
     (⊎-elim
     (λ u. queue-set (w .bits) b (a .on) (u .1 .result) (j .if2 .queues) (u .0 .taken) (u .1 .ensures (w .bits) was) (u .2))
@@ -93,10 +71,10 @@ pub marked-spec : {M : Type 1} → statement M
 marked-spec =
     tie.close
     (tie.spec
-    set-requires
-    is-corner-requires
-    is-corner-requires-2
-    is-corner-requires-3
-    add-first
+    (λ c κs. search needs)
+    (λ c κs. search needs)
+    (λ c κs. search needs)
+    (λ c κs. search needs)
+    (λ c. search needs)
     returns
     returns-2)

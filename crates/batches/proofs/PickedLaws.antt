@@ -41,9 +41,9 @@ picked-later f lo k v C (e ∷ b) a h =
     let l : k < suc (e .0) = omega arith in
     rw (write-other (e .0) k v C n, picked-later f (suc (e .0)) k v C b (a .1) l)
 
-turned-round : {A : Type 0} (b : Bool) (x y : A) → cond b x y ≡ cond (not b) y x
-turned-round true x y = refl
-turned-round false x y = refl
+swapped : {A : Type 0} (b : Bool) (x y : A) → cond b x y ≡ cond (not b) y x
+swapped true x y = refl
+swapped false x y = refl
 
 pub confirmed-picked : (lo : ℕ) (b : Batch) (C : List ℕ) → Asc lo b → confirmed b C ≡ picked alters C b
 unfolding confirmed sift
@@ -52,7 +52,7 @@ confirmed-picked lo (e ∷ b) C a =
     let D : List ℕ = write (e .0) (e .1) C in
     let s : Bool = Bool·beq (has (e .0) C) (e .1) in
     let r : confirmed b D ≡ picked alters C b = confirmed-picked (suc (e .0)) b D (a .1) ∙ picked-later alters (suc (e .0)) (e .0) (e .1) C b (a .1) (omega arith) in
-    ap (λ (m : Batch). cond s m (e ∷ m)) r ∙ turned-round s (picked alters C b) (e ∷ picked alters C b)
+    ap (λ (m : Batch). cond s m (e ∷ m)) r ∙ swapped s (picked alters C b) (e ∷ picked alters C b)
 
 -- ---- how many cells there are afterwards
 write-length : (k : ℕ) (v : Bool) (C : List ℕ) → AscL 0 C → length (write k v C) + cond (frees (has k C) v) 1 0 ≡ length C + cond (fills (has k C) v) 1 0

@@ -1,15 +1,12 @@
--- `window::near` is the definition's steps. Assumes nothing.
+-- `window::beside` is the definition's steps. Assumes nothing.
 use Prim.Native.Nat.{_*_, _/_, _^_, _<_}
 use native.Mathlib.Omega.{arith}
 use mathlib.Core.Path.{refl}
 use borrow.Author.Needs.{needs}
 use lib.Bits.{bitOr, or-lt}
 use Rattle.corner.specs.Window.{beside}
-use Rattle.corner.proofs.window.near.Statement.{statement}
-use Rattle.corner.proofs.window.near.Tie as tie
-
-mul-v : tie.Need-mul-v
-mul-v c = search needs
+use Rattle.corner.proofs.window.beside.Statement.{statement}
+use Rattle.corner.proofs.window.beside.Tie as tie
 
 mul-result : tie.Need-mul-result
 mul-result c =
@@ -22,5 +19,5 @@ returns : tie.Need-returns
 unfolding beside
 returns c = refl
 
-pub near-spec : {M : Type 1} → statement M
-near-spec = tie.close (tie.spec mul-v mul-result returns)
+pub beside-spec : {M : Type 1} → statement M
+beside-spec = tie.close (tie.spec (λ c. search needs) mul-result returns)

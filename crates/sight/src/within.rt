@@ -1,4 +1,5 @@
-// Whether a cell is near enough to block a point.
+// Whether a cell is within reach of a point.
+use sizes::COLUMN;
 ghost use mathlib.Core.Path.{_≡_};
 ghost use mathlib.Core.Bool.{_&&_};
 ghost use lib.Dec.{leb};
@@ -11,11 +12,11 @@ fn difference(a: u64, b: u64) -> u64
 }
 
 // Whether two cells are at most `reach` apart on both axes.
-pub(crate) fn near_by(a: u64, b: u64, reach: u64) -> bool
+pub(crate) fn within(a: u64, b: u64, reach: u64) -> bool
     ensures { λ r. ⌜ r ≡ (leb (apart (col a) (col b)) reach && leb (apart (row a) (row b)) reach) ⌝ }
 {
-    if difference(a / 4294967296, b / 4294967296) <= reach {
-        return difference(a % 4294967296, b % 4294967296) <= reach;
+    if difference(a / COLUMN, b / COLUMN) <= reach {
+        return difference(a % COLUMN, b % COLUMN) <= reach;
     }
     false
 }

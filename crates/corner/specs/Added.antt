@@ -1,4 +1,4 @@
--- Between functions: what one turned cell adds to the corner changes of a batch: the contracts of the steps of `corner_changes` cite it. Definitions only.
+-- Between functions: what one confirmed cell adds to the corner changes of a batch: the contracts of the steps of `corner_changes` cite it. Definitions only.
 use Prim.Native.Nat.{ℕ, _+_}
 use mathlib.Core.Path.{_≡_}
 use mathlib.Core.Bool.{cond, _||_}
@@ -9,19 +9,19 @@ use Rattle.model.specs.Corner.{Bits, sameBits, statusOf}
 use Rattle.model.specs.Maps.{AscL, has, keys}
 use Rattle.table.specs.Listed.{values}
 use Rattle.table.specs.Tables.{All}
-use Rattle.corner.specs.Changes.{Inner, Turned}
+use Rattle.corner.specs.Changes.{Inner, Toggled}
 
--- what the contract of `corner_changes` supposes: cells C before and C′ after, K turned over
+-- what the contract of `corner_changes` supposes: cells C before and C′ after, K toggled
 pub record Given (C K C′ : List ℕ) : Type 0 where
-  pub turned : Turned C K C′
+  pub toggled : Toggled C K C′
   pub cells : AscL 0 C
-  pub turns : AscL 0 K
+  pub confirmed : AscL 0 K
   pub inner : All Inner K
 
 -- the cells met around the cells K (the model's `met`, of the keys alone)
-unfoldable pub near : List ℕ → List ℕ
-near [] = []
-near (k ∷ K) = around k ++ near K
+unfoldable pub aroundAll : List ℕ → List ℕ
+aroundAll [] = []
+aroundAll (k ∷ K) = around k ++ aroundAll K
 
 -- k with its new status if that is another, unless it was met
 unfoldable pub freshOne : List ℕ → List ℕ → List ℕ → ℕ → List (ℕ × Bits)
@@ -33,7 +33,7 @@ fresh C C′ met (k ∷ l) = freshOne C C′ met k ++ fresh C C′ met l
 
 -- what the i-th of the cells K adds
 abbrev pub freshAt : List ℕ → List ℕ → List ℕ → ℕ → List (ℕ × Bits)
-freshAt C C′ K i = fresh C C′ (near (take i K)) (around (getD K i 0))
+freshAt C C′ K i = fresh C C′ (aroundAll (take i K)) (around (getD K i 0))
 
 -- the tables a and b, filled up to n, became a′ and b′, filled up to r: l is added, and what follows is untouched
 pub record Added (l : List (ℕ × ℕ)) (a a′ b b′ : List ℕ) (n r : ℕ) : Type 0 where
