@@ -19,7 +19,7 @@ pub struct Told {
 pub fn is_occupied(map: Map, cells: &[u64], cell: Cell) -> Told
     ensures { λ r. ⌜ IsOccupied map (now (cells .entry)) (cell .x) (cell .y) r ⌝ }
 {
-    let number = refuse(lacks(cells.len(), 1024, false), map, false, false);
+    let number = refuse(lacks(cells.len(), 1024, false), map, 0);
     if number != 0 {
         return Told {
             refusal: number,
@@ -38,7 +38,7 @@ pub fn occupied_cells(map: Map, cells: &[u64], out: &mut [u64]) -> Count
     ensures { λ r. ⌜ OccupiedCells map (now (cells .entry)) (now (out .entry)) (now (out .exit)) r ⌝ }
 {
     let short = lacks(cells.len(), 1024, lacks(out.len(), 1024, false));
-    let number = refuse(short, map, false, false);
+    let number = refuse(short, map, 0);
     if number != 0 {
         return refused(number);
     }
@@ -59,7 +59,7 @@ pub fn corner_cells(map: Map, cells: &[u64], out: &mut [u64], statuses: &mut [u8
         1024,
         lacks(out.len(), 1024, lacks(statuses.len(), 1024, false)),
     );
-    let number = refuse(short, map, false, false);
+    let number = refuse(short, map, 0);
     if number != 0 {
         return refused(number);
     }

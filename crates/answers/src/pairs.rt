@@ -86,7 +86,7 @@ pub fn all_pairs(
         lacks(greater.len(), 2016, lacks(blocks.len(), 2016, false)),
     );
     let short = lacks(points.len(), 64, lacks(pairs.len(), 4096, outputs));
-    let number = refuse(short, map, false, false);
+    let number = refuse(short, map, 0);
     if number != 0 {
         return refused(number);
     }
@@ -165,7 +165,7 @@ pub fn open_pairs(
         64,
         lacks(blockers.len(), 64, lacks(pairs.len(), 4096, outputs)),
     );
-    let number = refuse(short, map, false, false);
+    let number = refuse(short, map, 0);
     if number != 0 {
         return refused(number);
     }

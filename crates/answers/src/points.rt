@@ -39,7 +39,7 @@ pub fn all_points(
         64,
         lacks(statuses.len(), 64, lacks(blockers.len(), 64, outputs)),
     );
-    let number = refuse(short, map, false, false);
+    let number = refuse(short, map, 0);
     if number != 0 {
         return refused(number);
     }
@@ -80,7 +80,7 @@ pub fn free_points(map: Map, points: &[u64], blockers: &[u64], out: &mut [u64]) 
         64,
         lacks(blockers.len(), 64, lacks(out.len(), 64, false)),
     );
-    let number = refuse(short, map, false, false);
+    let number = refuse(short, map, 0);
     if number != 0 {
         return refused(number);
     }

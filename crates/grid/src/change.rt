@@ -3,9 +3,11 @@ use batches::batch::commit;
 use batches::batch::confirm;
 use batches::batch::count_after;
 use corner::changes::corner_changes;
+use limits::due::due;
+use limits::due::first_due;
 use limits::floor::Floor;
 use limits::judge::bad_size;
-use limits::judge::refuse_batch;
+use limits::judge::batch_due;
 ghost use mathlib.Core.List.{List};
 ghost use mathlib.Core.Path.{_≡_};
 ghost use Prim.Native.Nat.{ℕ, _≤_};
@@ -61,20 +63,8 @@ fn is_short(cells: usize, confirmed: usize, full: usize, corners: usize, statuse
 fn judge(short: bool, size: f64, cells: usize, batch: &[i64]) -> u8
     ensures { λ r. ⌜ r ≡ refuseChange short size (now (batch .entry)) (ltb maxCells cells) ⌝ }
 {
-    if short {
-        return 9;
-    }
-    if bad_size(size) {
-        return 1;
-    }
-    let number = refuse_batch(batch);
-    if number != 0 {
-        return number;
-    }
-    if 1024 < cells {
-        return 6;
-    }
-    0
+    let read = batch_due(due(0, 6, 1024 < cells), batch);
+    first_due(due(due(read, 1, bad_size(size)), 9, short))
 }
 
 // The batch, once nothing refuses it.

@@ -1,7 +1,6 @@
 -- Any two outcomes that a listing's contract permits are equal. Assumes nothing.
 use Prim.Native.Nat.{ℕ}
 use mathlib.Core.Path.{_≡_, refl}
-use mathlib.Core.Bool.{false}
 use mathlib.Core.List.{List, [], _∷_}
 use lib.ListN.{length}
 use Rattle.answers.proofs.ListingLaws.{Settled, list-one}
@@ -21,8 +20,7 @@ module _ (m : Map) (cells points statuses blockers pairs out : List ℕ) where
   abbrev pub mapDue : ℕ
   mapDue =
       refuseMap
-      (short ((length cells, maxCells) ∷ (length points, maxPoints) ∷ (length statuses, maxPoints) ∷ (length blockers, maxPoints) ∷ (length pairs, pairPlaces) ∷ (length out, needListing) ∷ [])) m
-      false false
+      (short ((length cells, maxCells) ∷ (length points, maxPoints) ∷ (length statuses, maxPoints) ∷ (length blockers, maxPoints) ∷ (length pairs, pairPlaces) ∷ (length out, needListing) ∷ [])) m []
 
   abbrev pub MapHeld : model.Map → Type 0
   MapHeld = HoldsSome m (λ t. (t .cells ≡ cells) × (t .points ≡ points) × (t .statuses ≡ statuses) × (t .blockers ≡ blockers) × (t .pairs ≡ pairs))

@@ -6,6 +6,7 @@ use held::map::Map;
 use print::counts::Counts;
 ghost use mathlib.Core.Path.{_≡_};
 ghost use mathlib.Core.Bool.{false};
+ghost use mathlib.Core.List.{[]};
 ghost use Prim.Native.Nat.{_≤_};
 ghost use lib.ListN.{length};
 ghost use Rattle.answers.specs.Asking.{HoldsSome, refuseMap};
@@ -16,7 +17,7 @@ ghost use Rattle.model.specs.Map as model;
 // How many cells have a corner.
 fn count_corners(map: Map, cells: &[u64]) -> usize
     requires { ⌜ 1024 ≤ length (now cells) ⌝ }
-    ensures { λ r. ⌜ ((M : model.Map) → HoldsSome map (λ t. t .cells ≡ now (cells .entry)) M → refuseMap false map false false ≡ 0 → r ≡ length (corners M)) ⌝ }
+    ensures { λ r. ⌜ ((M : model.Map) → HoldsSome map (λ t. t .cells ≡ now (cells .entry)) M → refuseMap false map [] ≡ 0 → r ≡ length (corners M)) ⌝ }
 {
     let mut keys = [0u64; 1024];
     let mut statuses = [0u8; 1024];
@@ -27,7 +28,7 @@ fn count_corners(map: Map, cells: &[u64]) -> usize
 // How many pairs are open.
 fn count_open(map: Map, points: &[u64], blockers: &[u64], pairs: &[u64]) -> usize
     requires { ⌜ (64 ≤ length (now points)) × (64 ≤ length (now blockers)) × (4096 ≤ length (now pairs)) ⌝ }
-    ensures { λ r. ⌜ ((M : model.Map) → HoldsSome map (λ t. (t .points ≡ now (points .entry)) × (t .blockers ≡ now (blockers .entry)) × (t .pairs ≡ now (pairs .entry))) M → refuseMap false map false false ≡ 0 → r ≡ length (openPairs M)) ⌝ }
+    ensures { λ r. ⌜ ((M : model.Map) → HoldsSome map (λ t. (t .points ≡ now (points .entry)) × (t .blockers ≡ now (blockers .entry)) × (t .pairs ≡ now (pairs .entry))) M → refuseMap false map [] ≡ 0 → r ≡ length (openPairs M)) ⌝ }
 {
     let mut lesser = [0u64; 2016];
     let mut greater = [0u64; 2016];
@@ -52,7 +53,7 @@ pub(crate) fn count_all(
     edges: usize,
 ) -> Counts
     requires { ⌜ (map .cells ≤ 1024) × (1024 ≤ length (now cells)) × (64 ≤ length (now points)) × (64 ≤ length (now blockers)) × (4096 ≤ length (now pairs)) ⌝ }
-    ensures { λ r. ⌜ ((M : model.Map) → HoldsSome map (λ t. (t .cells ≡ now (cells .entry)) × (t .points ≡ now (points .entry)) × (t .blockers ≡ now (blockers .entry)) × (t .pairs ≡ now (pairs .entry))) M → refuseMap false map false false ≡ 0
+    ensures { λ r. ⌜ ((M : model.Map) → HoldsSome map (λ t. (t .cells ≡ now (cells .entry)) × (t .points ≡ now (points .entry)) × (t .blockers ≡ now (blockers .entry)) × (t .pairs ≡ now (pairs .entry))) M → refuseMap false map [] ≡ 0
         → r ≡ record { cells = length (M .cells); corners = length (corners M); points = map .points; edges = edges; «open» = length (openPairs M); blocks = blockCount (M .cells) }) ⌝ }
 {
     let n = map.cells;

@@ -32,7 +32,7 @@ pub fn list_map(
     out: &mut [u8],
 ) -> Count
     ensures { λ r. ⌜ Listing
-        (refuseMap (short ((length (now (cells .entry)), maxCells) ∷ (length (now (points .entry)), maxPoints) ∷ (length (now (statuses .entry)), maxPoints) ∷ (length (now (blockers .entry)), maxPoints) ∷ (length (now (pairs .entry)), pairPlaces) ∷ (length (now (out .entry)), needListing) ∷ [])) map false false)
+        (refuseMap (short ((length (now (cells .entry)), maxCells) ∷ (length (now (points .entry)), maxPoints) ∷ (length (now (statuses .entry)), maxPoints) ∷ (length (now (blockers .entry)), maxPoints) ∷ (length (now (pairs .entry)), pairPlaces) ∷ (length (now (out .entry)), needListing) ∷ [])) map [])
         (HoldsSome map (λ t. (t .cells ≡ now (cells .entry)) × (t .points ≡ now (points .entry)) × (t .statuses ≡ now (statuses .entry)) × (t .blockers ≡ now (blockers .entry)) × (t .pairs ≡ now (pairs .entry))))
         (record { was = now (out .entry); is = now (out .exit); wanted = λ M. listed (done M) } ∷ []) r ⌝ }
 {
@@ -46,7 +46,7 @@ pub fn list_map(
         ),
     );
     let short = lacks(cells.len(), 1024, lacks(points.len(), 64, layer));
-    let number = refuse(short, map, false, false);
+    let number = refuse(short, map, 0);
     if number != 0 {
         return refused(number);
     }

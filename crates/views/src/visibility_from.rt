@@ -112,7 +112,7 @@ pub fn visibility_from(
         ),
     );
     let short = lacks(cells.len(), 1024, lacks(points.len(), 64, lists));
-    let number = refuse(short, map, off_edge(cell), false);
+    let number = refuse(short, map, off_edge(cell));
     if number != 0 {
         return refused(number);
     }

@@ -1,11 +1,11 @@
 -- `cells::corner_cells`: the refusal that is due, or the corners among the used cells. Assumes nothing.
 use Prim.Native.Nat.{ℕ}
-use mathlib.Core.Path.{_≡_, refl, sym, ap, _∙_}
-use mathlib.Core.Bool.{Bool, false}
+use mathlib.Core.Path.{_≡_, refl, sym, _∙_}
+use mathlib.Core.Bool.{false}
 use mathlib.Core.List.{List, [], _∷_}
 use lib.ListN.{length}
 use Rattle.answers.proofs.ListingLaws.{listing-done, listing-refused}
-use Rattle.answers.proofs.PassedLaws.{lacks-short, long-enough, none-short}
+use Rattle.answers.proofs.PassedLaws.{lacks-short, list-as, long-enough, none-short}
 use Rattle.answers.specs.Asking.{refuseMap}
 use Rattle.model.specs.Limits.{maxCells, needCells}
 use Rattle.model.specs.Refusal.{short}
@@ -24,18 +24,18 @@ last s = (length (s .args .statuses .now), needCells) ∷ []
 abbrev rest : tie.Start → List (ℕ × ℕ)
 rest s = (length (s .args .out .now), needCells) ∷ last s
 
-due : (p : tie.After-refuse) → let a = start p .args in p .refuse .result ≡ refuseMap (short ((length (a .cells .now), maxCells) ∷ rest (start p))) (a .map) false false
+due : (p : tie.After-refuse) → let a = start p .args in p .refuse .result ≡ refuseMap (short ((length (a .cells .now), maxCells) ∷ rest (start p))) (a .map) []
 due p =
     let s = start p in
     let a = s .args in
     let k = p .before .before in
     let l = k .before in
-    p .refuse .ensures
-    ∙ ap (λ (s : Bool). refuseMap s (a .map) false false) (lacks-short (length (a .cells .now)) maxCells (rest s) (k .lacks2 .result) (p .before .lacks3 .result) (p .before .lacks3 .ensures)
+    list-as (p .refuse .result) (p .before .lacks3 .result) _ (a .map) (p .refuse .ensures)
+    (lacks-short (length (a .cells .now)) maxCells (rest s) (k .lacks2 .result) (p .before .lacks3 .result) (p .before .lacks3 .ensures)
     (lacks-short (length (a .out .now)) needCells (last s) (l .lacks .result) (k .lacks2 .result) (k .lacks2 .ensures)
     (lacks-short (length (a .statuses .now)) needCells [] false (l .lacks .result) (l .lacks .ensures) none-short)))
 
-passes : (e : tie.Else1) → let a = start (e .before) .args in refuseMap (short ((length (a .cells .now), maxCells) ∷ rest (start (e .before)))) (a .map) false false ≡ 0
+passes : (e : tie.Else1) → let a = start (e .before) .args in refuseMap (short ((length (a .cells .now), maxCells) ∷ rest (start (e .before)))) (a .map) [] ≡ 0
 passes e = sym (due (e .before)) ∙ e .if1 .left
 
 lacks-requires : tie.Need-lacks-requires
@@ -63,7 +63,7 @@ slice-aggregate-corner-cells : tie.Need-slice-aggregate-corner-cells
 slice-aggregate-corner-cells c =
     let e = c .before in
     let s = start (e .before) in
-    used (s .args .map) (s .args .cells .now) (rest s) false false (passes e)
+    used (s .args .map) (s .args .cells .now) (rest s) [] (passes e)
 
 corner-cells-requires : tie.Need-corner-cells-requires
 corner-cells-requires c κs = tt
@@ -80,7 +80,7 @@ returns-2 c =
     let e = d .before .before .before .before in
     let s = start (e .before) in
     let a = s .args in
-    let room = long-enough (length (a .out .now)) needCells (last s) (rest-long (a .map) (a .cells .now) (rest s) false false (passes e)) in
+    let room = long-enough (length (a .out .now)) needCells (last s) (rest-long (a .map) (a .cells .now) (rest s) [] (passes e)) in
     let space = long-enough (length (a .statuses .now)) needCells [] (room .1) in
     listing-done _ (e .before .refuse .result) (Lent (a .map) (a .cells .now)) _ _ (due (e .before)) (e .if1 .left) refl
     (corners-written (a .map) (a .cells .now) (a .out .now) (d .corner-cells .last .1 .0) (room .0) (a .statuses .now) (d .corner-cells .last .1 .1 .0) (space .0) (d .corner-cells .result) (d .corner-cells .ensures .0))

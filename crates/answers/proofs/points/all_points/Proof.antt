@@ -5,7 +5,7 @@ use mathlib.Core.Bool.{false}
 use mathlib.Core.List.{List, [], _∷_}
 use lib.ListN.{length}
 use Rattle.answers.proofs.ListingLaws.{listing-done, listing-refused}
-use Rattle.answers.proofs.PassedLaws.{accepted, none-short, lacks-short}
+use Rattle.answers.proofs.PassedLaws.{accepted, lacks-short, list-as, none-short}
 use Rattle.answers.specs.Asking.{refuseMap}
 use Rattle.model.specs.Refusal.{short}
 use Rattle.held.proofs.RoomLaws.{Enough}
@@ -21,7 +21,7 @@ abbrev lent : tie.Start → List (ℕ × ℕ)
 lent s = let a = s .args in (length (a .points .now), 64) ∷ (length (a .statuses .now), 64) ∷ (length (a .blockers .now), 64) ∷ (length (a .out .now), 64) ∷ (length (a .bits .now), 64) ∷ (length (a .blocks .now), 64) ∷ []
 
 -- what was answered, and what it says of the lent tables where it is 0
-number : (p : tie.After-refuse) → p .refuse .result ≡ refuseMap (short (lent (start p))) (start p .args .map) false false
+number : (p : tie.After-refuse) → p .refuse .result ≡ refuseMap (short (lent (start p))) (start p .args .map) []
 number p =
     let l = p .before in
     let k = l .before in
@@ -35,10 +35,10 @@ number p =
     let e4 = lacks-short _ 64 _ (i .lacks3 .result) (j .lacks4 .result) (j .lacks4 .ensures) e3 in
     let e5 = lacks-short _ 64 _ (j .lacks4 .result) (k .lacks5 .result) (k .lacks5 .ensures) e4 in
     let e6 : l .lacks6 .result ≡ short (lent (start p)) = lacks-short _ 64 _ (k .lacks5 .result) (l .lacks6 .result) (l .lacks6 .ensures) e5 in
-    rw (← e6) (p .refuse .ensures)
+    list-as (p .refuse .result) (l .lacks6 .result) (short (lent (start p))) (start p .args .map) (p .refuse .ensures) e6
 
 accept : (p : tie.Else1) → Enough (lent (start (p .before))) × (start (p .before) .args .map .cells ≤ 1024) × (start (p .before) .args .map .points ≤ 64)
-accept p = let s = start (p .before) in accepted (lent s) (s .args .map) false false (p .before .refuse .result) (number (p .before)) (p .if1 .left)
+accept p = let s = start (p .before) in accepted (lent s) (s .args .map) [] (p .before .refuse .result) (number (p .before)) (p .if1 .left)
 
 -- where nothing is refused, from the second copy; and that, from the third
 abbrev second : tie.After-slice-known4 → tie.Else1

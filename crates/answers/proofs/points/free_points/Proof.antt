@@ -6,7 +6,7 @@ use mathlib.Core.Bool.{false}
 use mathlib.Core.List.{List, [], _∷_}
 use lib.ListN.{length}
 use Rattle.answers.proofs.ListingLaws.{listing-done, listing-refused}
-use Rattle.answers.proofs.PassedLaws.{accepted, none-short, lacks-short}
+use Rattle.answers.proofs.PassedLaws.{accepted, lacks-short, list-as, none-short}
 use Rattle.answers.specs.Asking.{refuseMap}
 use Rattle.model.specs.Refusal.{short}
 use Rattle.held.proofs.RoomLaws.{Enough}
@@ -22,7 +22,7 @@ abbrev lent : tie.Start → List (ℕ × ℕ)
 lent s = let a = s .args in (length (a .points .now), 64) ∷ (length (a .blockers .now), 64) ∷ (length (a .out .now), 64) ∷ []
 
 -- what was answered, and what it says of the lent tables where it is 0
-number : (p : tie.After-refuse) → p .refuse .result ≡ refuseMap (short (lent (start p))) (start p .args .map) false false
+number : (p : tie.After-refuse) → p .refuse .result ≡ refuseMap (short (lent (start p))) (start p .args .map) []
 number p =
     let i = p .before in
     let h = i .before in
@@ -30,10 +30,10 @@ number p =
     let e1 = lacks-short _ 64 _ false (g .lacks .result) (g .lacks .ensures) none-short in
     let e2 = lacks-short _ 64 _ (g .lacks .result) (h .lacks2 .result) (h .lacks2 .ensures) e1 in
     let e3 : i .lacks3 .result ≡ short (lent (start p)) = lacks-short _ 64 _ (h .lacks2 .result) (i .lacks3 .result) (i .lacks3 .ensures) e2 in
-    rw (← e3) (p .refuse .ensures)
+    list-as (p .refuse .result) (i .lacks3 .result) (short (lent (start p))) (start p .args .map) (p .refuse .ensures) e3
 
 accept : (p : tie.Else1) → Enough (lent (start (p .before))) × (start (p .before) .args .map .cells ≤ 1024) × (start (p .before) .args .map .points ≤ 64)
-accept p = let s = start (p .before) in accepted (lent s) (s .args .map) false false (p .before .refuse .result) (number (p .before)) (p .if1 .left)
+accept p = let s = start (p .before) in accepted (lent s) (s .args .map) [] (p .before .refuse .result) (number (p .before)) (p .if1 .left)
 
 lacks-requires : tie.Need-lacks-requires
 lacks-requires c κs = tt

@@ -10,7 +10,7 @@ use mathlib.Core.Logic.{⊎-elim, inl, inr}
 use lib.ListN.{length, length-replicate, replicate, take}
 use lib.Seq.{length-take-le}
 use Rattle.answers.proofs.ListingLaws.{listing-done, listing-refused}
-use Rattle.answers.proofs.PassedLaws.{accepted, none-short, lacks-short}
+use Rattle.answers.proofs.PassedLaws.{accepted, lacks-short, list-as, none-short}
 use Rattle.answers.specs.Asking.{refuseMap}
 use Rattle.answers.proofs.PointLaws.{used}
 use Rattle.model.specs.Refusal.{short}
@@ -29,7 +29,7 @@ lent s = let a = s .args in
     (length (a .cells .now), 1024) ∷ (length (a .points .now), 64) ∷ (length (a .statuses .now), 64) ∷ (length (a .blockers .now), 64) ∷ (length (a .pairs .now), 4096) ∷ (length (a .out .now), 166656) ∷ []
 
 -- what was answered, and what it says of the lent tables where it is 0
-number : (p : tie.After-refuse) → p .refuse .result ≡ refuseMap (short (lent (start p))) (start p .args .map) false false
+number : (p : tie.After-refuse) → p .refuse .result ≡ refuseMap (short (lent (start p))) (start p .args .map) []
 number p =
     let l = p .before in
     let k = l .before in
@@ -43,10 +43,10 @@ number p =
     let e4 = lacks-short _ 64 _ (i .lacks3 .result) (j .lacks4 .result) (j .lacks4 .ensures) e3 in
     let e5 = lacks-short _ 64 _ (j .lacks4 .result) (k .lacks5 .result) (k .lacks5 .ensures) e4 in
     let e6 : l .lacks6 .result ≡ short (lent (start p)) = lacks-short _ 1024 _ (k .lacks5 .result) (l .lacks6 .result) (l .lacks6 .ensures) e5 in
-    rw (← e6) (p .refuse .ensures)
+    list-as (p .refuse .result) (l .lacks6 .result) (short (lent (start p))) (start p .args .map) (p .refuse .ensures) e6
 
 accept : (p : tie.Else1) → Enough (lent (start (p .before))) × (start (p .before) .args .map .cells ≤ 1024) × (start (p .before) .args .map .points ≤ 64)
-accept p = let s = start (p .before) in accepted (lent s) (s .args .map) false false (p .before .refuse .result) (number (p .before)) (p .if1 .left)
+accept p = let s = start (p .before) in accepted (lent s) (s .args .map) [] (p .before .refuse .result) (number (p .before)) (p .if1 .left)
 
 -- where nothing is refused; where the pairs are listed; where they are counted; where the points are printed
 abbrev listing : tie.Joined2 → tie.After-all-pairs

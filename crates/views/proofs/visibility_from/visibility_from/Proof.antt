@@ -6,7 +6,7 @@ use mathlib.Core.List.{[], _∷_}
 use mathlib.Core.Bool.{Bool, true, false}
 use lib.ListN.{length, take}
 use Rattle.answers.proofs.ListingLaws.{listing-refused}
-use Rattle.answers.proofs.PassedLaws.{refused-as, lacks-short, none-short}
+use Rattle.answers.proofs.PassedLaws.{asked-as, lacks-short, none-short}
 use Rattle.model.specs.Limits.{maxCells, maxPoints, needOthers}
 use Rattle.held.specs.Pairs.{pairPlaces}
 use Rattle.table.specs.Tables.{stands}
@@ -44,7 +44,7 @@ number p =
     let out = pairs .before in
     let rest = lacks-short (length (a .pairs .now)) pairPlaces ((length (a .out .now), needOthers) ∷ []) (out .lacks .result) (pairs .lacks2 .result) (pairs .lacks2 .ensures)
     (lacks-short (length (a .out .now)) needOthers [] false (out .lacks .result) (out .lacks .ensures) none-short) in
-    refused-as (p .refuse .result) (cells .lacks6 .result) _ (a .map) (p .before .off-edge .result) _ false (p .refuse .ensures)
+    asked-as (p .refuse .result) (cells .lacks6 .result) _ (a .map) (p .before .off-edge .result) _ (p .refuse .ensures)
     (lacks-short (length (a .cells .now)) maxCells _ (points .lacks5 .result) (cells .lacks6 .result) (cells .lacks6 .ensures)
     (lacks-short (length (a .points .now)) maxPoints _ (statuses .lacks4 .result) (points .lacks5 .result) (points .lacks5 .ensures)
     (lacks-short (length (a .statuses .now)) maxPoints _ (blockers .lacks3 .result) (statuses .lacks4 .result) (statuses .lacks4 .ensures)

@@ -8,23 +8,20 @@ use lib.Seq.{length-take-le}
 use Rattle.model.specs.Refusal.{short}
 use Rattle.visibility.specs.Change.{Lent, lentNeeds, refuseBatch}
 use Rattle.held.specs.Holds as tables
-use Rattle.visibility.proofs.ChangeLaws.{Passed, batch-passed, crowded-refused, early-refused, packed-refused, short-either, updated}
+use Rattle.visibility.proofs.ChangeLaws.{Passed, batch-passed, early-refused, room-passed, room-refused, room-updated, short-either}
 use Rattle.held.proofs.RoomLaws.{Enough, long-enough}
 use Rattle.visibility.proofs.UpdateLaws.{lentOf}
 use Rattle.visibility.proofs.change.change_cells.Statement.{statement}
 use Rattle.visibility.proofs.change.change_cells.Tie as tie
 
--- the places: the start; past the input's refusals; past the cells' number; past the points'; the batch done
+-- the places: the start; past the input's refusals; past the numbers of cells and points; the batch done
 abbrev start : tie.After-judge → tie.Start
 start p = p .before .before .before .before .before .before .before .before .before .before .before .before .before
 
 abbrev entry : tie.After-count-after → tie.Else2
 entry p = p .before .before
 
-abbrev fitting : tie.Else4 → tie.Else3
-fitting p = p .before .before
-
-abbrev ready : tie.After-update-arg9 → tie.Else4
+abbrev ready : tie.After-update-arg9 → tie.Else3
 ready p = p .before .before .before .before .before .before .before .before .before
 
 abbrev ended : tie.After-slice-known18 → tie.After-update
@@ -107,6 +104,9 @@ slice-aggregate-count-after c =
 count-after-requires : tie.Need-count-after-requires
 count-after-requires c κs = tt
 
+judge-room-requires : tie.Need-judge-room-requires
+judge-room-requires c κs = tt
+
 refused-requires-2 : tie.Need-refused-requires-2
 refused-requires-2 c κs = tt
 
@@ -115,70 +115,63 @@ same-length c = refl
 
 returns-2 : tie.Need-returns-2
 returns-2 c =
-    let k = c .before .before in
-    let e = entry k in
-    let a = start (e .before) .args in
-    crowded-refused (a .map) (a .batch .now) (lent (start (e .before))) _ (c .refused2 .result) (none e) (k .count-after .result) (k .count-after .ensures) (c .before .if3 .taken) (c .refused2 .ensures) refl
-
-refused-requires-3 : tie.Need-refused-requires-3
-refused-requires-3 c κs = tt
-
-same-length-2 : tie.Need-same-length-2
-same-length-2 c = refl
-
-returns-3 : tie.Need-returns-3
-returns-3 c =
-    let g = c .before .before .before in
+    let g = c .before .before in
     let k = g .before in
     let e = entry k in
     let a = start (e .before) .args in
-    packed-refused (a .map) (a .batch .now) (lent (start (e .before))) _ (c .refused3 .result) (none e) (k .count-after .result) (k .count-after .ensures) (g .if3 .left) (c .before .if4 .taken) (c .refused3 .ensures) refl
+    room-refused (a .map) (a .batch .now) (lent (start (e .before))) _ (c .refused2 .result) (none e) (k .count-after .result) (k .count-after .ensures) (g .judge-room .result) (g .judge-room .ensures)
+    (c .before .if3 .taken) (c .refused2 .ensures) refl
 
 update-requires : tie.Need-update-requires
 update-requires c κs =
     let f = ready c in
-    let e = entry (fitting f .before) in
-    let q = passed e in
-    let n = long e in
-    let o = n .1 .1 .1 .1 .1 in
-    (q .small, n .0, f .if4 .left, n .1 .0, n .1 .1 .0, n .1 .1 .1 .0, q .few, o .0, o .1 .0, o .1 .1 .0, o .1 .1 .1 .0)
-
-same-length-3 : tie.Need-same-length-3
-same-length-3 c = ended c .update .kept .1 .0
-
-same-length-4 : tie.Need-same-length-4
-same-length-4 c = ended c .update .kept .1 .1 .0
-
-same-length-5 : tie.Need-same-length-5
-same-length-5 c = ended c .update .kept .1 .1 .1 .0
-
-same-length-6 : tie.Need-same-length-6
-same-length-6 c = ended c .update .kept .1 .1 .1 .1 .0
-
-same-length-7 : tie.Need-same-length-7
-same-length-7 c = ended c .update .kept .1 .1 .1 .1 .1 .0
-
-same-length-8 : tie.Need-same-length-8
-same-length-8 c = ended c .update .kept .1 .1 .1 .1 .1 .1 .1 .0
-
-same-length-9 : tie.Need-same-length-9
-same-length-9 c = ended c .update .kept .1 .1 .1 .1 .1 .1 .1 .1 .0
-
-same-length-10 : tie.Need-same-length-10
-same-length-10 c = ended c .update .kept .1 .1 .1 .1 .1 .1 .1 .1 .1 .0
-
-same-length-11 : tie.Need-same-length-11
-same-length-11 c = ended c .update .kept .1 .1 .1 .1 .1 .1 .1 .1 .1 .1 .0
-
-returns-4 : tie.Need-returns-4
-returns-4 c =
-    let y = ended c in
-    let f = ready (y .before) in
-    let g = fitting f in
+    let g = f .before in
     let k = g .before in
     let e = entry k in
     let a = start (e .before) .args in
-    updated (a .map) (a .batch .now) (lent (start (e .before))) (given y) (y .update .result) (none e) (k .count-after .result) (k .count-after .ensures) (g .if3 .left) (f .if4 .left) (y .update .ensures)
+    let q = passed e in
+    let n = long e in
+    let o = n .1 .1 .1 .1 .1 in
+    let few = room-passed (k .count-after .result) (a .map .points) (g .judge-room .result) (g .judge-room .ensures) (f .if3 .left) in
+    (q .small, n .0, few .1, n .1 .0, n .1 .1 .0, n .1 .1 .1 .0, q .few, o .0, o .1 .0, o .1 .1 .0, o .1 .1 .1 .0)
+
+same-length-2 : tie.Need-same-length-2
+same-length-2 c = ended c .update .kept .1 .0
+
+same-length-3 : tie.Need-same-length-3
+same-length-3 c = ended c .update .kept .1 .1 .0
+
+same-length-4 : tie.Need-same-length-4
+same-length-4 c = ended c .update .kept .1 .1 .1 .0
+
+same-length-5 : tie.Need-same-length-5
+same-length-5 c = ended c .update .kept .1 .1 .1 .1 .0
+
+same-length-6 : tie.Need-same-length-6
+same-length-6 c = ended c .update .kept .1 .1 .1 .1 .1 .0
+
+same-length-7 : tie.Need-same-length-7
+same-length-7 c = ended c .update .kept .1 .1 .1 .1 .1 .1 .1 .0
+
+same-length-8 : tie.Need-same-length-8
+same-length-8 c = ended c .update .kept .1 .1 .1 .1 .1 .1 .1 .1 .0
+
+same-length-9 : tie.Need-same-length-9
+same-length-9 c = ended c .update .kept .1 .1 .1 .1 .1 .1 .1 .1 .1 .0
+
+same-length-10 : tie.Need-same-length-10
+same-length-10 c = ended c .update .kept .1 .1 .1 .1 .1 .1 .1 .1 .1 .1 .0
+
+returns-3 : tie.Need-returns-3
+returns-3 c =
+    let y = ended c in
+    let f = ready (y .before) in
+    let g = f .before in
+    let k = g .before in
+    let e = entry k in
+    let a = start (e .before) .args in
+    room-updated (a .map) (a .batch .now) (lent (start (e .before))) (given y) (y .update .result) (none e) (k .count-after .result) (k .count-after .ensures) (g .judge-room .result) (g .judge-room .ensures)
+    (f .if3 .left) (y .update .ensures)
 
 pub change-cells-spec : {M : Type 1} → statement M
 change-cells-spec =
@@ -192,13 +185,12 @@ change-cells-spec =
     slice-reshare-prefix-count-after
     slice-aggregate-count-after
     count-after-requires
+    judge-room-requires
     refused-requires-2
     same-length
     returns-2
-    refused-requires-3
-    same-length-2
-    returns-3
     update-requires
+    same-length-2
     same-length-3
     same-length-4
     same-length-5
@@ -207,5 +199,4 @@ change-cells-spec =
     same-length-8
     same-length-9
     same-length-10
-    same-length-11
-    returns-4)
+    returns-3)

@@ -1,85 +1,63 @@
--- `change::judge` is the first refusal that is due. Assumes nothing.
-use mathlib.Core.Path.{_≡_, sym, ap, _∙_}
-use mathlib.Core.Bool.{Bool, false, cond}
+-- `change::judge`: what is due is added to the word from the last to the first. Assumes nothing.
 use Prim.Native.Nat.{ℕ}
-use lib.Dec.{ltb}
+use mathlib.Core.Path.{refl, ap, _∙_}
+use mathlib.Core.List.{[]}
 use borrow.Author.Needs.{needs}
-use borrow.Author.Tests.{lt-ltb, le-ltb}
-use Rattle.visibility.specs.Change.{refuseBatch}
-use Rattle.visibility.proofs.RefuseLaws.{batch-entries, batch-last, batch-radius, batch-short, batch-size}
+use Rattle.limits.proofs.WordLaws.{both-added, due-added, none-added}
+use Rattle.limits.specs.Words.{looked, wordOn}
+use Rattle.visibility.proofs.RefuseLaws.{batch-judged}
 use Rattle.visibility.proofs.change.judge.Statement.{statement}
 use Rattle.visibility.proofs.change.judge.Tie as tie
 
-returns : tie.Need-returns
-returns c = let a = c .before .args in batch-short (a .short) (a .map) (a .batch .now) (ltb 1024 (a .map .cells)) false (c .if1 .taken)
+due-requires : tie.Need-due-requires
+due-requires c κs = search needs
 
-bad-size-requires : tie.Need-bad-size-requires
-bad-size-requires c κs = search needs
-
-returns-2 : tie.Need-returns-2
-returns-2 c =
-    let s = c .before in
-    let a = s .before .before .args in
-    batch-size (a .short) (a .map) (a .batch .now) (ltb 1024 (a .map .cells)) false (s .before .if1 .left) (sym (s .bad-size .ensures) ∙ c .if2 .taken)
+batch-due-requires : tie.Need-batch-due-requires
+batch-due-requires c κs = search needs
 
 bad-radius-requires : tie.Need-bad-radius-requires
 bad-radius-requires c κs = search needs
 
-returns-3 : tie.Need-returns-3
-returns-3 c =
-    let r = c .before in
-    let e = r .before in
-    let s = e .before in
-    let a = s .before .before .args in
-    batch-radius (a .short) (a .map) (a .batch .now) (ltb 1024 (a .map .cells)) false (s .before .if1 .left) (sym (s .bad-size .ensures) ∙ e .if2 .left) (sym (r .bad-radius .ensures) ∙ c .if3 .taken)
+due-requires-2 : tie.Need-due-requires-2
+due-requires-2 c κs = search needs
 
-refuse-batch-requires : tie.Need-refuse-batch-requires
-refuse-batch-requires c κs = search needs
+bad-size-requires : tie.Need-bad-size-requires
+bad-size-requires c κs = search needs
 
-returns-4 : tie.Need-returns-4
-returns-4 c =
-    let b = c .before in
-    let f = b .before in
-    let r = f .before in
-    let e = r .before in
-    let s = e .before in
-    let a = s .before .before .args in
-    batch-entries (a .short) (a .map) (a .batch .now) (ltb 1024 (a .map .cells)) false (s .before .if1 .left) (sym (s .bad-size .ensures) ∙ e .if2 .left) (sym (r .bad-radius .ensures) ∙ f .if3 .left) (b .refuse-batch .result) (b .refuse-batch .ensures) (c .if4 .taken)
+due-requires-3 : tie.Need-due-requires-3
+due-requires-3 c κs = search needs
 
--- nothing but the number of cells is left to judge
-last : (c : tie.Else4) →
-    let s = c .before .before .before .before .before in
-    let a = s .before .before .args in
-    _≡_ {A = ℕ} (cond (ltb 1024 (a .map .cells)) 6 0) (refuseBatch (a .short) (a .map) (a .batch .now) (ltb 1024 (a .map .cells)) false)
-last c =
-    let b = c .before in
-    let f = b .before in
-    let r = f .before in
-    let e = r .before in
-    let s = e .before in
-    let a = s .before .before .args in
-    batch-last (a .short) (a .map) (a .batch .now) (ltb 1024 (a .map .cells)) false (s .before .if1 .left) (sym (s .bad-size .ensures) ∙ e .if2 .left) (sym (r .bad-radius .ensures) ∙ f .if3 .left) (b .refuse-batch .result) (b .refuse-batch .ensures) (c .if4 .left)
+due-requires-4 : tie.Need-due-requires-4
+due-requires-4 c κs = search needs
 
-returns-5 : tie.Need-returns-5
-returns-5 c =
-    let n = c .before .before .before .before .before .before .before .before .before .args .map .cells in
-    sym (ap (λ (t : Bool). cond t 6 0) (lt-ltb 1024 n (c .if5 .taken))) ∙ last (c .before .before)
+first-due-requires : tie.Need-first-due-requires
+first-due-requires c κs = search needs
 
-returns-6 : tie.Need-returns-6
-returns-6 c =
-    let n = c .before .before .before .before .before .before .before .before .before .args .map .cells in
-    sym (ap (λ (t : Bool). cond t 6 0) (le-ltb 1024 n (c .if5 .left))) ∙ last (c .before .before)
+returns : tie.Need-returns
+returns c =
+    let short = c .before in
+    let size = short .before in
+    let radius = size .before .before in
+    let batch = radius .before .before in
+    let cells = batch .before in
+    let a = cells .before .before .args in
+    let b = a .batch .now in
+    batch-judged (a .short) (a .map) b _ (c .first-due .ensures)
+    (due-added 9 0 _ _ (short .due4 .ensures) refl refl
+    (due-added 1 0 _ _ (size .due3 .ensures) refl (size .before .bad-size .ensures)
+    (due-added 2 0 _ _ (radius .due2 .ensures) refl (radius .before .bad-radius .ensures)
+    (batch .batch-due .ensures ∙ ap (λ (w : ℕ). wordOn w (looked b)) (due-added 6 0 _ [] (cells .due .ensures) refl refl (none-added 0)) ∙ both-added 0 (looked b) _))))
 
 pub judge-spec : {M : Type 1} → statement M
 judge-spec =
     tie.close
     (tie.spec
-    returns
-    bad-size-requires
-    returns-2
+    due-requires
+    batch-due-requires
     bad-radius-requires
-    returns-3
-    refuse-batch-requires
-    returns-4
-    returns-5
-    returns-6)
+    due-requires-2
+    bad-size-requires
+    due-requires-3
+    due-requires-4
+    first-due-requires
+    returns)

@@ -3,22 +3,19 @@ use mathlib.Core.Path.{_≡_, sym, _∙_}
 use mathlib.Core.Bool.{false}
 use lib.Seq.{length-take-le}
 use borrow.Author.Needs.{needs}
-use Rattle.model.specs.Refusal.{badSize, short}
+use Rattle.model.specs.Refusal.{badRadius, badSize, refuseOpen, short}
 use Rattle.held.specs.Holds.{Tables}
 use Rattle.held.specs.Holds as tables
 use Rattle.held.proofs.RoomLaws.{Enough, long-enough}
-use Rattle.visibility.proofs.OpenLaws.{open-done, open-radius, open-refused, open-short, open-size}
+use Rattle.visibility.proofs.OpenLaws.{open-done, open-judged, open-passed, open-refused}
 use Rattle.visibility.proofs.open.open.Statement.{statement}
 use Rattle.visibility.proofs.open.open.Tie as tie
 
--- the places: the start; where nothing is refused; each table cleared
+-- the places: the start; each table cleared
 abbrev start : tie.After-short-tables → tie.Start
 start p = p .before .before .before .before .before .before
 
-abbrev entry : tie.Else3 → tie.Else1
-entry p = p .before .before .before .before
-
-abbrev first : tie.After-slice-known6 → tie.Else3
+abbrev first : tie.After-slice-known6 → tie.Else1
 first p = p .before .before .before .before
 
 abbrev second : tie.After-slice-known7 → tie.After-slice-known6
@@ -37,23 +34,29 @@ fifth p = p .before .before .before .before
 abbrev lent : tie.Start → Tables
 lent s = let a = s .args in record { cells = a .cells .now; points = a .points .now; statuses = a .statuses .now; blockers = a .blockers .now; pairs = a .pairs .now }
 
-judged : (p : tie.After-short-tables) → short (tables.needs (lent (start p))) ≡ p .short-tables .result
-judged p = sym (p .short-tables .ensures)
+number : (p : tie.After-judge) → let s = start (p .before) in p .judge .result ≡ refuseOpen (tables.needs (lent s)) (s .args .size) (s .args .radius)
+number p =
+    let s = start (p .before) in
+    open-judged (tables.needs (lent s)) (s .args .size) (s .args .radius) (p .before .short-tables .result) (p .judge .result) (p .judge .ensures) (p .before .short-tables .ensures)
 
-long : (p : tie.Else1) → short (tables.needs (lent (start (p .before)))) ≡ false
-long p = judged (p .before) ∙ p .if1 .left
+abbrev given : tie.Else1 → Tables
+given p = lent (start (p .before .before))
 
-sized : (p : tie.Else2) → badSize (start (p .before .before .before) .args .size) ≡ false
-sized p = sym (p .before .bad-size .ensures) ∙ p .if2 .left
+passed : (p : tie.Else1) →
+    let s = start (p .before .before) in
+    (short (tables.needs (given p)) ≡ false) × (badSize (s .args .size) ≡ false) × (badRadius (s .args .size) (s .args .radius) ≡ false)
+passed p =
+    let s = start (p .before .before) in
+    open-passed (tables.needs (given p)) (s .args .size) (s .args .radius) (sym (number (p .before)) ∙ p .if1 .left)
 
-abbrev given : tie.Else3 → Tables
-given p = lent (start (entry p .before))
-
-room : (p : tie.Else3) → Enough (tables.needs (given p))
-room p = long-enough (tables.needs (given p)) (long (entry p))
+room : (p : tie.Else1) → Enough (tables.needs (given p))
+room p = long-enough (tables.needs (given p)) (passed p .0)
 
 short-tables-requires : tie.Need-short-tables-requires
 short-tables-requires c κs = search needs
+
+judge-requires : tie.Need-judge-requires
+judge-requires c κs = search needs
 
 refused-requires : tie.Need-refused-requires
 refused-requires c κs = search needs
@@ -61,36 +64,8 @@ refused-requires c κs = search needs
 returns : tie.Need-returns
 returns c =
     let p = c .before .before in
-    let s = start p in
-    let l = lent s in
-    open-refused (s .args .size) (s .args .radius) l 8 (c .refused .result) (c .refused .ensures) (open-short (tables.needs l) (s .args .size) (s .args .radius) (judged p ∙ c .before .if1 .taken))
-
-bad-size-requires : tie.Need-bad-size-requires
-bad-size-requires c κs = search needs
-
-refused-requires-2 : tie.Need-refused-requires-2
-refused-requires-2 c κs = search needs
-
-returns-2 : tie.Need-returns-2
-returns-2 c =
-    let p = c .before .before in
-    let s = start (p .before .before) in
-    let l = lent s in
-    open-refused (s .args .size) (s .args .radius) l 0 (c .refused2 .result) (c .refused2 .ensures) (open-size (tables.needs l) (s .args .size) (s .args .radius) (long (p .before)) (sym (p .bad-size .ensures) ∙ c .before .if2 .taken))
-
-bad-radius-requires : tie.Need-bad-radius-requires
-bad-radius-requires c κs = search needs
-
-refused-requires-3 : tie.Need-refused-requires-3
-refused-requires-3 c κs = search needs
-
-returns-3 : tie.Need-returns-3
-returns-3 c =
-    let p = c .before .before in
-    let e = p .before .before .before in
-    let s = start (e .before) in
-    let l = lent s in
-    open-refused (s .args .size) (s .args .radius) l 1 (c .refused3 .result) (c .refused3 .ensures) (open-radius (tables.needs l) (s .args .size) (s .args .radius) (long e) (sized (p .before)) (sym (p .bad-radius .ensures) ∙ c .before .if3 .taken))
+    let s = start (p .before) in
+    open-refused (s .args .size) (s .args .radius) (lent s) (p .judge .result) (c .refused .result) (c .before .if1 .taken) (c .refused .ensures) (number p)
 
 slice-relend-prefix-clear : tie.Need-slice-relend-prefix-clear
 slice-relend-prefix-clear c = room c .0
@@ -152,16 +127,17 @@ same-length-4 c = search needs
 same-length-5 : tie.Need-same-length-5
 same-length-5 c = search needs
 
-returns-4 : tie.Need-returns-4
-returns-4 c =
+returns-2 : tie.Need-returns-2
+returns-2 c =
     let e = c .before .before in
     let d = fifth c .before .before in
     let b = fourth (fifth c) .before .before in
     let p = third (fourth (fifth c)) .before .before in
     let k = second (third (fourth (fifth c))) .before .before in
     let n = first (second (third (fourth (fifth c)))) in
-    let s = start (entry n .before) in
-    open-done (s .args .size) (s .args .radius) (lent s) (long (entry n)) (sized (n .before .before)) (sym (n .before .bad-radius .ensures) ∙ n .if3 .left)
+    let s = start (n .before .before) in
+    let q = passed n in
+    open-done (s .args .size) (s .args .radius) (lent s) (q .0) (q .1) (q .2)
     (k .clear .last .0) (p .clear2 .last .0) (b .clear-bytes .last .0) (d .clear3 .last .0) (e .clear4 .last .0)
     (k .clear .ensures) (p .clear2 .ensures) (b .clear-bytes .ensures) (d .clear3 .ensures) (e .clear4 .ensures)
 
@@ -170,14 +146,9 @@ open-spec =
     tie.close
     (tie.spec
     short-tables-requires
+    judge-requires
     refused-requires
     returns
-    bad-size-requires
-    refused-requires-2
-    returns-2
-    bad-radius-requires
-    refused-requires-3
-    returns-3
     slice-relend-prefix-clear
     slice-aggregate-clear
     clear-requires
@@ -198,4 +169,4 @@ open-spec =
     same-length-3
     same-length-4
     same-length-5
-    returns-4)
+    returns-2)
