@@ -1,20 +1,23 @@
 -- The question of four shapes, answered or refused; by a number that names none it is refused. Assumes nothing.
-use Prim.Native.Nat.{ℕ}
+use Prim.Native.Nat.{ℕ, _%_, _^_}
 use native.Mathlib.Nat.{suc-ne-zero}
-use mathlib.Core.Path.{_≡_, sym, ap, _∙_}
-use mathlib.Core.Bool.{Bool, true, false, _||_, true≢false}
+use mathlib.Core.Path.{_≡_, refl, sym, ap, _∙_}
+use mathlib.Core.Bool.{Bool, true, false, cond, _||_, true≢false}
 use mathlib.Core.List.{List, [], _∷_}
+use lib.Bits.{bitOr}
 use lib.Dec.{ltb}
 use lib.ListN.{length, take}
-use Rattle.answers.proofs.PassedLaws.{lacks-short, none-short, passed}
-use Rattle.answers.specs.Asking.{refuseMap}
+use Rattle.answers.proofs.PassedLaws.{asked-as, lacks-short, none-short, passed-query}
+use Rattle.answers.specs.Asking.{onMap}
 use Rattle.held.specs.declared.map.Map.{Map}
+use Rattle.limits.proofs.WordLaws.{due-added, none-added}
+use Rattle.limits.specs.Words.{firstOn, wordOn}
 use Rattle.model.specs.Answers.{question}
 use Rattle.model.specs.Good.{Inside}
 use Rattle.model.specs.Limits.{maxCells, maxCoordinate}
 use Rattle.model.specs.Map as model
 use Rattle.model.specs.Maps.{AscL}
-use Rattle.model.specs.Refusal.{short}
+use Rattle.model.specs.Refusal.{order, short}
 use Rattle.model.specs.Shape.{ask}
 use Rattle.answers.specs.CellLists.{Lent, due}
 use Rattle.answers.proofs.CellLaws.{held}
@@ -30,12 +33,13 @@ use Rattle.table.specs.Tables.{All}
 use Rattle.answers.specs.Asks.{Asking}
 
 -- the refusal k, of what the tests said
-pub due-told : (m : Map) (cells : List ℕ) (s bad : Bool) (k : ℕ) → s ≡ (ltb (length cells) maxCells || false) → k ≡ refuseMap s m false bad → k ≡ due m cells [] bad
-due-told m cells s bad k e f = f ∙ ap (λ (z : Bool). refuseMap z m false bad) (lacks-short (length cells) maxCells [] false s e none-short)
+pub due-told : (m : Map) (cells : List ℕ) (s bad : Bool) (w k : ℕ) → s ≡ (ltb (length cells) maxCells || false) → w ≡ bitOr 0 (cond bad (2 ^ (8 % 64)) 0) → k ≡ firstOn order (wordOn w (onMap s m []))
+    → k ≡ due m cells [] ((8, bad) ∷ [])
+due-told m cells s bad w k e g f = asked-as k s _ m w ((8, bad) ∷ []) f (lacks-short (length cells) maxCells [] false s e none-short) (due-added 8 0 bad [] g refl refl (none-added 0))
 
 -- a shape that no number names is always refused
-pub unknown-refused : (m : Map) (cells : List ℕ) → due m cells [] true ≡ 0 → ⊥
-unknown-refused m cells e = true≢false (passed (short ((length cells, maxCells) ∷ [])) m false true e .4)
+pub unknown-refused : (m : Map) (cells : List ℕ) → due m cells [] ((8, true) ∷ []) ≡ 0 → ⊥
+unknown-refused m cells e = true≢false (passed-query (short ((length cells, maxCells) ∷ [])) m true e)
 
 -- the number k was answered, where n is due, to the question q
 module _ (n k : ℕ) (Hold : model.Map → Type 0) (e : k ≡ n) (q : Question) where

@@ -20,7 +20,7 @@ use Rattle.model.specs.Corner.{cornerCells}
 use Rattle.model.specs.Limits.{maxCells}
 use Rattle.model.specs.Map as model
 use Rattle.model.specs.Maps.{AscL, has, keys}
-use Rattle.model.specs.Refusal.{short}
+use Rattle.model.specs.Refusal.{Dues, short}
 use Rattle.table.proofs.AllLaws.{all-map}
 use Rattle.table.proofs.ListedLaws.{keys-length, values-length}
 use Rattle.table.specs.Listed.{values}
@@ -28,16 +28,16 @@ use Rattle.held.specs.declared.map.Map.{Map}
 use Rattle.answers.specs.CellLists.{Lent}
 
 -- ---- a call that is not refused: the used cells are lent, and each output has room for them
-module _ (m : Map) (cells : List ℕ) (l : List (ℕ × ℕ)) (off bad : Bool) (e : refuseMap (short ((length cells, maxCells) ∷ l)) m off bad ≡ 0) where
+module _ (m : Map) (cells : List ℕ) (l : List (ℕ × ℕ)) (more : Dues) (e : refuseMap (short ((length cells, maxCells) ∷ l)) m more ≡ 0) where
   few : m .cells ≤ maxCells
-  few = passed (short ((length cells, maxCells) ∷ l)) m off bad e .2
+  few = passed (short ((length cells, maxCells) ∷ l)) m more e .1
 
   pub rest-long : short l ≡ false
-  rest-long = long-enough (length cells) maxCells l (passed (short ((length cells, maxCells) ∷ l)) m off bad e .0) .1
+  rest-long = long-enough (length cells) maxCells l (passed (short ((length cells, maxCells) ∷ l)) m more e .0) .1
 
   pub used : m .cells ≡ length (take (m .cells) cells)
   used =
-      let room = long-enough (length cells) maxCells l (passed (short ((length cells, maxCells) ∷ l)) m off bad e .0) .0 in
+      let room = long-enough (length cells) maxCells l (passed (short ((length cells, maxCells) ∷ l)) m more e .0) .0 in
       sym (length-take-le (m .cells) cells (omega (arith, few, room)))
 
 -- ---- a map that is held

@@ -1,7 +1,6 @@
 -- Any two outcomes that a call's contract permits are equal, of a map that is held; and where the call is refused, whatever the tables hold. Assumes nothing.
 use Prim.Native.Nat.{ℕ}
 use mathlib.Core.Path.{refl, sym, _∙_, _≡_}
-use mathlib.Core.Bool.{false}
 use mathlib.Core.List.{List, [], _∷_}
 use lib.IntN.{ℤ}
 use lib.ListN.{length}
@@ -33,18 +32,18 @@ module _ (n : ℕ) (Hold : model.Map → Type 0) where
 
 -- ---- the calls, on the cells that the map m lends
 module _ (m : Map) (cells : List ℕ) where
-  pub occupied-one : (x y : ℤ) (r q : Told) → IsOccupied m cells x y r → IsOccupied m cells x y q → Settled (due m cells [] false) (Lent m cells) → r ≡ q
-  occupied-one = telling-one (due m cells [] false) (Lent m cells)
+  pub occupied-one : (x y : ℤ) (r q : Told) → IsOccupied m cells x y r → IsOccupied m cells x y q → Settled (due m cells [] []) (Lent m cells) → r ≡ q
+  occupied-one = telling-one (due m cells [] []) (Lent m cells)
 
   module _ (out out₁ out₂ : List ℕ) (r q : Count) where
-    pub cells-one : OccupiedCells m cells out out₁ r → OccupiedCells m cells out out₂ q → Settled (due m cells ((length out, needCells) ∷ []) false) (Lent m cells) → (r ≡ q) × (out₁ ≡ out₂)
-    cells-one u v s = let w = list-one (due m cells ((length out, needCells) ∷ []) false) (Lent m cells) _ _ _ _ r q (refl, refl, tt) u v s in (w .0, w .1 .0)
+    pub cells-one : OccupiedCells m cells out out₁ r → OccupiedCells m cells out out₂ q → Settled (due m cells ((length out, needCells) ∷ []) []) (Lent m cells) → (r ≡ q) × (out₁ ≡ out₂)
+    cells-one u v s = let w = list-one (due m cells ((length out, needCells) ∷ []) []) (Lent m cells) _ _ _ _ r q (refl, refl, tt) u v s in (w .0, w .1 .0)
 
     module _ (statuses statuses₁ statuses₂ : List ℕ) where
       pub corners-one : CornerCells m cells out statuses out₁ statuses₁ r → CornerCells m cells out statuses out₂ statuses₂ q
-          → Settled (due m cells ((length out, needCells) ∷ (length statuses, needCells) ∷ []) false) (Lent m cells) → (r ≡ q) × (out₁ ≡ out₂) × (statuses₁ ≡ statuses₂)
+          → Settled (due m cells ((length out, needCells) ∷ (length statuses, needCells) ∷ []) []) (Lent m cells) → (r ≡ q) × (out₁ ≡ out₂) × (statuses₁ ≡ statuses₂)
       corners-one u v s =
-          let w = list-one (due m cells ((length out, needCells) ∷ (length statuses, needCells) ∷ []) false) (Lent m cells) _ _ _ _ r q (refl, refl, (refl, refl, tt)) u v s in
+          let w = list-one (due m cells ((length out, needCells) ∷ (length statuses, needCells) ∷ []) []) (Lent m cells) _ _ _ _ r q (refl, refl, (refl, refl, tt)) u v s in
           (w .0, w .1 .0, w .1 .1 .0)
 
 -- `all_points`
@@ -82,12 +81,12 @@ same-answer : (r q : Answer) → r .refusal ≡ q .refusal → r .cell ≡ q .ce
 same-answer r q a b = rw (a, b) refl
 
 pub ask-one : (m : Map) (cells : List ℕ) (question : Question) (r q : Answer) → Asks m cells question r → Asks m cells question q
-    → Settled (due m cells [] (badQuestion (asked question))) (Lent m cells) → r ≡ q
+    → Settled (due m cells [] ((8, badQuestion (asked question)) ∷ [])) (Lent m cells) → r ≡ q
 ask-one m cells question r q u v =
-    settled-one (due m cells [] (badQuestion (asked question))) (Lent m cells) r q (λ k e. u .refused k e ∙ sym (v .refused k e))
+    settled-one (due m cells [] ((8, badQuestion (asked question)) ∷ [])) (Lent m cells) r q (λ k e. u .refused k e ∙ sym (v .refused k e))
     (λ M h e. same-answer r q (u .refusal ∙ sym (v .refusal)) (place-one (r .cell) (q .cell) (u .answer M h e ∙ sym (v .answer M h e))))
 
 -- by its shape's number
-pub numbered-one : (m : Map) (cells : List ℕ) (n : Numbered) (r q : Answer) → AsksNumbered m cells n r → AsksNumbered m cells n q → Settled (due m cells [] (badNumbered n)) (Lent m cells) → r ≡ q
+pub numbered-one : (m : Map) (cells : List ℕ) (n : Numbered) (r q : Answer) → AsksNumbered m cells n r → AsksNumbered m cells n q → Settled (due m cells [] ((8, badNumbered n) ∷ [])) (Lent m cells) → r ≡ q
 numbered-one m cells Numbered.Unknown r q u v s = u ∙ sym v
 numbered-one m cells (Numbered.Known question) r q u v s = ask-one m cells question r q u v s

@@ -1,32 +1,23 @@
 -- What every call has in common that leaves the map as it is: its refusals, and the lists that it writes to lent places (RULES 4.2, 2.2). Definitions only.
 use Prim.Native.Nat.{ℕ, suc}
 use mathlib.Core.Path.{_≡_}
-use mathlib.Core.Bool.{Bool, false}
+use mathlib.Core.Bool.{Bool}
 use mathlib.Core.List.{List, [], _∷_, _++_}
 use lib.Dec.{ltb}
 use lib.ListN.{drop, length}
 use Rattle.model.specs.Limits.{maxCells, maxPoints}
 use Rattle.model.specs.Map as model
-use Rattle.model.specs.Refusal.{badRadius, badSize, verdict}
+use Rattle.model.specs.Refusal.{Dues, badRadius, badSize, verdict}
 use Rattle.held.specs.Holds.{Holds, Tables}
 use Rattle.held.specs.declared.map.Map.{Map}
 use Rattle.answers.specs.declared.judge.Count.{Count}
 
--- the model's refusals of such a call (`refuseAsking`), by what is handed in alone: whether a lent table is short, the map, whether a coordinate is outside, whether a query number is bad
-unfoldable pub refuseMap : Bool → Map → Bool → Bool → ℕ
-refuseMap lent m off bad =
-    verdict
-    (record {
-      short = lent;
-      size = badSize (m .size);
-      radius = badRadius (m .size) (m .radius);
-      long = false;
-      disorder = false;
-      outside = off;
-      cells = ltb maxCells (m .cells);
-      points = ltb maxPoints (m .points);
-      query = bad;
-    })
+-- the model's refusals of such a call (`refuseAsking`), by what is handed in alone: whether a lent table is short, the map, and what the call is judged by besides
+abbrev pub onMap : Bool → Map → Dues → Dues
+onMap lent m more = (9, lent) ∷ (1, badSize (m .size)) ∷ (2, badRadius (m .size) (m .radius)) ∷ (6, ltb maxCells (m .cells)) ∷ (7, ltb maxPoints (m .points)) ∷ more
+
+unfoldable pub refuseMap : Bool → Map → Dues → ℕ
+refuseMap lent m more = verdict (onMap lent m more)
 
 -- a refused call answers its number, and all else is zero
 abbrev pub refusedWith : ℕ → Count

@@ -2,7 +2,7 @@
 use Prim.Native.Nat.{ℕ, suc}
 use mathlib.Core.Path.{_≡_}
 use mathlib.Core.Bool.{true}
-use mathlib.Core.List.{List, []}
+use mathlib.Core.List.{List, [], _∷_}
 use Rattle.held.specs.declared.map.Map.{Map}
 use Rattle.model.specs.Answers.{question}
 use Rattle.model.specs.Map as model
@@ -22,9 +22,9 @@ pub record Asking (n : ℕ) (Hold : model.Map → Type 0) (q : Question) (r : An
 
 -- of the map m, which lends its cells
 abbrev pub Asks : Map → List ℕ → Question → Answer → Type 0
-Asks m cells q r = Asking (due m cells [] (badQuestion (asked q))) (Lent m cells) q r
+Asks m cells q r = Asking (due m cells [] ((8, badQuestion (asked q)) ∷ [])) (Lent m cells) q r
 
 -- by its shape's number: one that names no shape is a query number outside its bounds, and the call is refused, whatever the tables hold
 abbrev pub AsksNumbered : Map → List ℕ → Numbered → Answer → Type 0
-AsksNumbered m cells Numbered.Unknown r = r ≡ nowhere (due m cells [] true)
+AsksNumbered m cells Numbered.Unknown r = r ≡ nowhere (due m cells [] ((8, true) ∷ []))
 AsksNumbered m cells (Numbered.Known q) r = Asks m cells q r

@@ -1,7 +1,6 @@
 -- The lists of points and pairs as calls on a map (RULES 2.2; occupancy/mod.rs, `iter_points`, `iter_edges`): the refusal that is due, the map that is held, the outputs. Definitions only.
 use Prim.Native.Nat.{ℕ}
 use mathlib.Core.Path.{_≡_}
-use mathlib.Core.Bool.{false}
 use mathlib.Core.List.{List, [], _∷_}
 use lib.ListN.{length}
 use Rattle.answers.specs.Asking.{HoldsSome, Listing, Output, refuseMap}
@@ -23,8 +22,7 @@ module _ (m : Map) (points statuses blockers out bits blocks : List ℕ) where
   abbrev pub pointsDue : ℕ
   pointsDue =
       refuseMap
-      (short ((length points, maxPoints) ∷ (length statuses, maxPoints) ∷ (length blockers, maxPoints) ∷ (length out, needOthers) ∷ (length bits, needOthers) ∷ (length blocks, needOthers) ∷ [])) m
-      false false
+      (short ((length points, maxPoints) ∷ (length statuses, maxPoints) ∷ (length blockers, maxPoints) ∷ (length out, needOthers) ∷ (length bits, needOthers) ∷ (length blocks, needOthers) ∷ [])) m []
 
   abbrev pub PointsHeld : model.Map → Type 0
   PointsHeld = HoldsSome m (λ t. (t .points ≡ points) × (t .statuses ≡ statuses) × (t .blockers ≡ blockers))
@@ -40,7 +38,7 @@ module _ (m : Map) (points statuses blockers out bits blocks : List ℕ) where
 -- `free_points`: the points that nothing blocks
 module _ (m : Map) (points blockers out : List ℕ) where
   abbrev pub freeDue : ℕ
-  freeDue = refuseMap (short ((length points, maxPoints) ∷ (length blockers, maxPoints) ∷ (length out, needOthers) ∷ [])) m false false
+  freeDue = refuseMap (short ((length points, maxPoints) ∷ (length blockers, maxPoints) ∷ (length out, needOthers) ∷ [])) m []
 
   abbrev pub FreeHeld : model.Map → Type 0
   FreeHeld = HoldsSome m (λ t. (t .points ≡ points) × (t .blockers ≡ blockers))
@@ -56,7 +54,7 @@ module _ (m : Map) (points pairs lesser greater blocks : List ℕ) where
   abbrev pub pairsDue : ℕ
   pairsDue =
       refuseMap
-      (short ((length points, maxPoints) ∷ (length pairs, pairPlaces) ∷ (length lesser, needPairs) ∷ (length greater, needPairs) ∷ (length blocks, needPairs) ∷ [])) m false false
+      (short ((length points, maxPoints) ∷ (length pairs, pairPlaces) ∷ (length lesser, needPairs) ∷ (length greater, needPairs) ∷ (length blocks, needPairs) ∷ [])) m []
 
   abbrev pub PairsHeld : model.Map → Type 0
   PairsHeld = HoldsSome m (λ t. (t .points ≡ points) × (t .pairs ≡ pairs))
@@ -74,7 +72,7 @@ module _ (m : Map) (points blockers pairs lesser greater : List ℕ) where
   abbrev pub openDue : ℕ
   openDue =
       refuseMap
-      (short ((length points, maxPoints) ∷ (length blockers, maxPoints) ∷ (length pairs, pairPlaces) ∷ (length lesser, needPairs) ∷ (length greater, needPairs) ∷ [])) m false false
+      (short ((length points, maxPoints) ∷ (length blockers, maxPoints) ∷ (length pairs, pairPlaces) ∷ (length lesser, needPairs) ∷ (length greater, needPairs) ∷ [])) m []
 
   abbrev pub OpenHeld : model.Map → Type 0
   OpenHeld = HoldsSome m (λ t. (t .points ≡ points) × (t .blockers ≡ blockers) × (t .pairs ≡ pairs))

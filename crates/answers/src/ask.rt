@@ -2,6 +2,7 @@
 use crate::judge::lacks;
 use crate::judge::refuse;
 use held::map::Map;
+use limits::due::due;
 use question::ask::Answer;
 use question::ask::place_of;
 use question::ask::refused;
@@ -21,8 +22,7 @@ pub fn ask_numbered(map: Map, cells: &[u64], numbered: Numbered) -> Answer
     let number = refuse(
         lacks(cells.len(), CELLS, false),
         map,
-        false,
-        bad_numbered(numbered),
+        due(0, 8, bad_numbered(numbered)),
     );
     let Numbered::Known(question) = numbered else {
         return refused(number);

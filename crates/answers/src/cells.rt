@@ -21,7 +21,7 @@ pub struct Told {
 pub fn is_occupied(map: Map, cells: &[u64], cell: Cell) -> Told
     ensures { λ r. ⌜ IsOccupied map (now (cells .entry)) (cell .x) (cell .y) r ⌝ }
 {
-    let number = refuse(lacks(cells.len(), CELLS, false), map, false, false);
+    let number = refuse(lacks(cells.len(), CELLS, false), map, 0);
     if number != 0 {
         return Told {
             refusal: number,
@@ -40,7 +40,7 @@ pub fn occupied_cells(map: Map, cells: &[u64], out: &mut [u64]) -> Count
     ensures { λ r. ⌜ OccupiedCells map (now (cells .entry)) (now (out .entry)) (now (out .exit)) r ⌝ }
 {
     let short = lacks(cells.len(), CELLS, lacks(out.len(), CELLS, false));
-    let number = refuse(short, map, false, false);
+    let number = refuse(short, map, 0);
     if number != 0 {
         return refused(number);
     }
@@ -57,7 +57,7 @@ pub fn corner_cells(map: Map, cells: &[u64], out: &mut [u64], statuses: &mut [u8
     ensures { λ r. ⌜ CornerCells map (now (cells .entry)) (now (out .entry)) (now (statuses .entry)) (now (out .exit)) (now (statuses .exit)) r ⌝ }
 {
     let short = lacks_three(cells.len(), out.len(), statuses.len(), CELLS, false);
-    let number = refuse(short, map, false, false);
+    let number = refuse(short, map, 0);
     if number != 0 {
         return refused(number);
     }

@@ -1,6 +1,8 @@
 // The refusals of a call that leaves the map as it is.
 use held::map::Map;
 use limits::cell::Cell;
+use limits::due::due;
+use limits::due::first_due;
 use limits::judge::bad_size;
 use limits::radius::bad_radius;
 use sizes::CELLS;
@@ -11,11 +13,12 @@ use sizes::POINTS;
 ghost use mathlib.Core.Path.{_≡_};
 ghost use mathlib.Core.Bool.{_||_};
 ghost use lib.Dec.{ltb};
-ghost use mathlib.Core.List.{List, _∷_};
+ghost use mathlib.Core.List.{List, [], _∷_};
 ghost use Prim.Native.Nat.{ℕ, _+_};
 ghost use Rattle.model.specs.Limits.{beyond, maxCoordinate};
-ghost use Rattle.model.specs.Refusal.{offMap, short};
-ghost use Rattle.answers.specs.Asking.{refuseMap, refusedWith};
+ghost use Rattle.model.specs.Refusal.{offMap, order, short};
+ghost use Rattle.limits.specs.Words.{firstOn, wordOn};
+ghost use Rattle.answers.specs.Asking.{onMap, refusedWith};
 ghost use Rattle.answers.specs.Walks.{tableNeeds};
 
 // 0 and how many there are; or the refusal's number, and 0.
@@ -82,8 +85,8 @@ fn beyond_edge(z: i64) -> bool
     MOST_ASKED < z
 }
 
-// 5: whether a cell named in a question is.
-pub fn off_edge(cell: Cell) -> bool
+// Whether one of a cell's coordinates is.
+fn beyond_edges(cell: Cell) -> bool
     ensures { λ r. ⌜ r ≡ (offMap (maxCoordinate + beyond) (cell .x) || offMap (maxCoordinate + beyond) (cell .y)) ⌝ }
 {
     if beyond_edge(cell.x) {
@@ -92,31 +95,19 @@ pub fn off_edge(cell: Cell) -> bool
     beyond_edge(cell.y)
 }
 
-// Which refusal is due, where `short` says whether a lent table is short, `off` whether a coordinate is outside and `bad`
-// whether a query number is.
-pub fn refuse(short: bool, map: Map, off: bool, bad: bool) -> u8
-    ensures { λ r. ⌜ r ≡ refuseMap short map off bad ⌝ }
+// 5, as a word, where a cell named in a question is outside.
+pub fn off_edge(cell: Cell) -> u64
+    ensures { λ r. ⌜ r ≡ wordOn 0 ((5, offMap (maxCoordinate + beyond) (cell .x) || offMap (maxCoordinate + beyond) (cell .y)) ∷ []) ⌝ }
 {
-    if short {
-        return 9;
-    }
-    if bad_size(map.size) {
-        return 1;
-    }
-    if bad_radius(map.size, map.radius) {
-        return 2;
-    }
-    if off {
-        return 5;
-    }
-    if CELLS < map.cells {
-        return 6;
-    }
-    if POINTS < map.points {
-        return 7;
-    }
-    if bad {
-        return 8;
-    }
-    0
+    due(0, 5, beyond_edges(cell))
+}
+
+// The first refusal that is due: by the lent tables, where `short` says that one is; by the map; and by `more`, the word of
+// what the call is judged by besides.
+pub fn refuse(short: bool, map: Map, more: u64) -> u8
+    ensures { λ r. ⌜ r ≡ firstOn order (wordOn more (onMap short map [])) ⌝ }
+{
+    let room = due(due(more, 7, POINTS < map.points), 6, CELLS < map.cells);
+    let known = due(room, 2, bad_radius(map.size, map.radius));
+    first_due(due(due(known, 1, bad_size(map.size)), 9, short))
 }

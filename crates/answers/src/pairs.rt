@@ -81,7 +81,7 @@ pub fn all_pairs(
 {
     let outputs = lacks_three(lesser.len(), greater.len(), blocks.len(), LISTED, false);
     let short = lacks(points.len(), POINTS, lacks(pairs.len(), PAIRS, outputs));
-    let number = refuse(short, map, false, false);
+    let number = refuse(short, map, 0);
     if number != 0 {
         return refused(number);
     }
@@ -162,7 +162,7 @@ pub fn open_pairs(
         POINTS,
         lacks(blockers.len(), POINTS, lacks(pairs.len(), PAIRS, outputs)),
     );
-    let number = refuse(short, map, false, false);
+    let number = refuse(short, map, 0);
     if number != 0 {
         return refused(number);
     }

@@ -33,7 +33,7 @@ pub fn all_points(
         POINTS,
         outputs,
     );
-    let number = refuse(short, map, false, false);
+    let number = refuse(short, map, 0);
     if number != 0 {
         return refused(number);
     }
@@ -69,7 +69,7 @@ pub fn free_points(map: Map, points: &[u64], blockers: &[u64], out: &mut [u64]) 
     ensures { λ r. ⌜ FreePoints map (now (points .entry)) (now (blockers .entry)) (now (out .entry)) (now (out .exit)) r ⌝ }
 {
     let short = lacks_three(points.len(), blockers.len(), out.len(), POINTS, false);
-    let number = refuse(short, map, false, false);
+    let number = refuse(short, map, 0);
     if number != 0 {
         return refused(number);
     }

@@ -1,18 +1,20 @@
 -- A batch's refusals in their order. Assumes nothing.
 use Prim.Native.Nat.{ℕ, _≤_, _<_}
 use native.Mathlib.Nat.{suc-ne-zero}
-use mathlib.Core.Path.{_≡_, refl, sym, ap, _∙_}
+use mathlib.Core.Path.{_≡_, refl, sym, _∙_}
 use mathlib.Core.Bool.{Bool, true, false, cond, _||_, or-false, true≢false}
-use mathlib.Core.List.{List}
+use mathlib.Core.List.{List, [], _∷_, _++_}
 use lib.Dec.{ltb}
 use lib.IntN.{ℤ}
 use lib.ListN.{length}
 use lib.Ieee.{Float}
 use borrow.Author.Tests.{lt-ltb, le-ltb, ltb-false}
-use Rattle.model.proofs.RunLaws.{or-parts}
+use Rattle.model.proofs.DueLaws.{or-parts}
 use Rattle.model.specs.Limits.{maxBatch, maxCells, needConfirmed, needCorners}
-use Rattle.model.specs.Refusal.{firstOf, verdict, short, badSize, unsorted, outside}
-use Rattle.limits.specs.Batches.{disorder, entries, ragged, refuseBatch}
+use Rattle.model.specs.Refusal.{firstDue, isDue, order, verdict, short, badSize, unsorted, outside}
+use Rattle.limits.proofs.WordLaws.{judged}
+use Rattle.limits.specs.Batches.{disorder, entries, ragged}
+use Rattle.limits.specs.Words.{firstOn, looked, unlessLong, wordOn}
 use Rattle.grid.specs.Change.{refuseChange, shortOf}
 
 -- ---- 9: the first table that is short
@@ -63,42 +65,18 @@ module _ (s : Bool) (c : Float) (l : List ℤ) (w : Bool) where
   rest = batchThen (ltb maxBatch (length (entries l))) (disorder l) (outside (entries l))
 
   in-turn : refuseChange s c l w ≡ cond s 9 (cond (badSize c) 1 (rest (cond w 6 0)))
-  unfolding refuseChange verdict firstOf
+  unfolding refuseChange verdict firstDue isDue
   in-turn = refl
 
-  batch-turn : refuseBatch l ≡ rest 0
-  unfolding refuseBatch firstOf
-  batch-turn = refl
+-- as a word: where the batch is too long, its entries are not looked at
+looked-judged : (s z x y v w : Bool) → verdict ((9, s) ∷ (1, z) ∷ (unlessLong x y v ++ ((6, w) ∷ []))) ≡ verdict ((9, s) ∷ (1, z) ∷ (3, x) ∷ (4, y) ∷ (5, v) ∷ (6, w) ∷ [])
+unfolding verdict firstDue isDue
+looked-judged s z true y v w = refl
+looked-judged s z false y v w = refl
 
-  pub change-short : s ≡ true → 9 ≡ refuseChange s c l w
-  change-short e = sym (in-turn ∙ ap (λ (b : Bool). cond b 9 (cond (badSize c) 1 (rest (cond w 6 0)))) e)
-
-  module _ (e : s ≡ false) where
-    pub change-size : badSize c ≡ true → 1 ≡ refuseChange s c l w
-    change-size f = sym (in-turn ∙ rw (e, f) refl)
-
-    module _ (f : badSize c ≡ false) where
-      known : refuseChange s c l w ≡ rest (cond w 6 0)
-      known = in-turn ∙ rw (e, f) refl
-
-      pub change-batch : (n : ℕ) → n ≡ refuseBatch l → (n ≡ 0 → ⊥) → n ≡ refuseChange s c l w
-      change-batch n g some = g ∙ batch-turn ∙ go (ltb maxBatch (length (entries l))) (disorder l) (outside (entries l)) (λ z. some (g ∙ batch-turn ∙ z)) ∙ sym known
-        where
-          go : (x y z : Bool) → (batchThen x y z 0 ≡ 0 → ⊥) → batchThen x y z 0 ≡ batchThen x y z (cond w 6 0)
-          go true y z h = refl
-          go false true z h = refl
-          go false false true h = refl
-          go false false false h = absurd (h refl)
-
-      -- 6 where there are too many cells, else 0
-      pub change-last : (n : ℕ) → n ≡ refuseBatch l → n ≡ 0 → cond w 6 0 ≡ refuseChange s c l w
-      change-last n g z = go (ltb maxBatch (length (entries l))) (disorder l) (outside (entries l)) (sym batch-turn ∙ sym g ∙ z) ∙ sym known
-        where
-          go : (x y v : Bool) → batchThen x y v 0 ≡ 0 → _≡_ {A = ℕ} (cond w 6 0) (batchThen x y v (cond w 6 0))
-          go true y v h = absurd (suc-ne-zero _ h)
-          go false true v h = absurd (suc-ne-zero _ h)
-          go false false true h = absurd (suc-ne-zero _ h)
-          go false false false h = refl
+pub change-judged : (s : Bool) (c : Float) (l : List ℤ) (w : Bool) {k r : ℕ} → r ≡ firstOn order k → k ≡ wordOn 0 ((9, s) ∷ (1, badSize c) ∷ (looked l ++ ((6, w) ∷ []))) → r ≡ refuseChange s c l w
+unfolding refuseChange
+change-judged s c l w e f = judged _ e f ∙ looked-judged s (badSize c) (ltb maxBatch (length (entries l))) (disorder l) (outside (entries l)) w
 
 -- what is not refused by the input alone: nothing applies but, with another number of cells, 6
 pub record Passed (s : Bool) (c : Float) (l : List ℤ) (w : Bool) : Type 0 where

@@ -43,18 +43,7 @@ shortFor t = shortOf (length (t .cells)) (length (t .confirmed)) (length (t .ful
 -- the model's refusals of a batch (`judge`), for a floor of which no layer is asked: whether a table is short, the cell size, the batch as it is handed in, whether there are too many cells
 unfoldable pub refuseChange : Bool → Float → List ℤ → Bool → ℕ
 refuseChange lent c b crowded =
-    verdict
-    (record {
-      short = lent;
-      size = badSize c;
-      radius = false;
-      long = ltb maxBatch (length (entries b));
-      disorder = disorder b;
-      outside = outside (entries b);
-      cells = crowded;
-      points = false;
-      query = false;
-    })
+    verdict ((9, lent) ∷ (1, badSize c) ∷ (3, ltb maxBatch (length (entries b))) ∷ (4, disorder b) ∷ (5, outside (entries b)) ∷ (6, crowded) ∷ [])
 
 -- what the input alone decides, the number of cells handed in among it; 0 for nothing
 abbrev pub refuseInput : Floor → List ℤ → Lent → ℕ

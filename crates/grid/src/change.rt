@@ -3,9 +3,11 @@ use batches::batch::commit;
 use batches::batch::confirm;
 use batches::batch::count_after;
 use corner::changes::corner_changes;
+use limits::due::due;
+use limits::due::first_due;
 use limits::floor::Floor;
 use limits::judge::bad_size;
-use limits::judge::refuse_batch;
+use limits::judge::batch_due;
 use sizes::BATCH;
 use sizes::CELLS;
 use sizes::CORNERS;
@@ -64,20 +66,8 @@ fn is_short(cells: usize, confirmed: usize, full: usize, corners: usize, altered
 fn judge(short: bool, size: f64, cells: usize, batch: &[i64]) -> u8
     ensures { λ r. ⌜ r ≡ refuseChange short size (now (batch .entry)) (ltb maxCells cells) ⌝ }
 {
-    if short {
-        return 9;
-    }
-    if bad_size(size) {
-        return 1;
-    }
-    let number = refuse_batch(batch);
-    if number != 0 {
-        return number;
-    }
-    if CELLS < cells {
-        return 6;
-    }
-    0
+    let read = batch_due(due(0, 6, CELLS < cells), batch);
+    first_due(due(due(read, 1, bad_size(size)), 9, short))
 }
 
 // The batch, once nothing refuses it.

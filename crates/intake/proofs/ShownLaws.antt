@@ -48,7 +48,7 @@ module _ {b b′ : List ℕ} (o : List ℕ) (s : short (lentOut b o) ≡ false) 
       tells (Shown.Listed (record { refusal = 0; count = k })) (y .0, y .1 .few, list-refused (y .0) o (out-long b o s .1) o′ n f k (y .1 .reads) p)
 
   pub shown-map : (m : Map) (lent : List (ℕ × ℕ)) (Hold : model.Map → Type 0) (r : Count) → e ≡ End.Map m → Enough lent → ((M : model.Map) → Holds m t′ M → Hold M)
-      → Listing (refuseMap (short lent) m false false) Hold (record { was = o; is = o′; wanted = λ M. listed (done M) } ∷ []) r → ShownInput b b′ o o′ (Shown.Listed r)
+      → Listing (refuseMap (short lent) m []) Hold (record { was = o; is = o′; wanted = λ M. listed (done M) } ∷ []) r → ShownInput b b′ o o′ (Shown.Listed r)
   shown-map m lent Hold r q k h l =
       let y = ended (End.Map m) q in
       tells (Shown.Listed r) (y .0, y .1 .few, list-read (y .0) o (out-long b o s .1) o′ m t′ lent Hold r (y .1 .reads) k h l)

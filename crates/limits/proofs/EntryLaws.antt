@@ -1,10 +1,12 @@
 -- A flat batch as its entries, and the two judgements an entry at a time. Assumes nothing.
-use Prim.Native.Nat.{ℕ, _+_, _-_, _*_, _/_, _%_, _≤_, _<_}
+use Prim.Native.Nat.{ℕ, _+_, _-_, _*_, _/_, _%_, _^_, _≤_, _<_}
 use native.Mathlib.Nat.{add-zero, le-of-suc-le-suc, not-suc-le-zero}
 use native.Mathlib.Omega.{arith}
-use mathlib.Core.Path.{_≡_, refl, ap, _∙_}
+use mathlib.Core.Path.{_≡_, refl, sym, ap, _∙_}
 use mathlib.Core.Bool.{Bool, true, false, not, cond, _&&_, _||_}
 use mathlib.Core.List.{List, [], _∷_}
+use lib.Bits.{bitOr}
+use lib.Dec.{ltb}
 use lib.IntN.{ℤ, pos}
 use lib.Signed.{leZ, ltZ}
 use lib.ListN.{length, drop, getD, length-drop}
@@ -12,8 +14,10 @@ use lib.Seq.{getD-drop, drop-drop}
 use borrow.Author.Tests.{lt-ltb, le-ltb, eq-eqb, ne-eqb}
 use Rattle.model.specs.Limits.{maxBatch, maxCoordinate}
 use Rattle.model.specs.Map.{Entry}
-use Rattle.model.specs.Refusal.{firstOf, offMap, outside, unsorted}
-use Rattle.limits.specs.Batches.{entries, isFull, ragged, refuseBatch}
+use Rattle.model.specs.Refusal.{firstDue, isDue, offMap, outside, unsorted, verdict}
+use Rattle.limits.specs.Batches.{disorder, entries, isFull, ragged}
+use Rattle.limits.specs.Words.{looked, wordOn}
+use Rattle.limits.proofs.WordLaws.{due-added, due-not, none-added}
 
 -- the number at a place, and the entry
 abbrev pub item : List ℤ → ℕ → ℤ
@@ -87,14 +91,20 @@ pub whole-is : (b : List ℤ) → length b % 3 ≡ 0 → ragged b ≡ false
 unfolding ragged
 whole-is b h = rw (eq-eqb (length b % 3) 0 h) refl
 
-pub refuse-long : (b : List ℤ) → maxBatch < length b / 3 → refuseBatch b ≡ 3
-unfolding refuseBatch firstOf
-refuse-long b h = rw (entries-length b, lt-ltb maxBatch (length b / 3) h)
-
-pub refuse-ragged : (b : List ℤ) → length b / 3 ≤ maxBatch → (length b % 3 ≡ 0 → ⊥) → refuseBatch b ≡ 4
-unfolding refuseBatch firstOf
+pub refuse-ragged : (b : List ℤ) → length b / 3 ≤ maxBatch → (length b % 3 ≡ 0 → ⊥) → verdict (looked b) ≡ 4
+unfolding verdict firstDue isDue
 refuse-ragged b h g = rw (entries-length b, le-ltb maxBatch (length b / 3) h, ragged-is b g)
 
-pub refuse-short : (b : List ℤ) (d o : Bool) → length b / 3 ≤ maxBatch → length b % 3 ≡ 0 → d ≡ unsorted (entries b) → o ≡ outside (entries b) → refuseBatch b ≡ cond d 4 (cond o 5 0)
-unfolding refuseBatch firstOf
-refuse-short b d o h g p q = rw (entries-length b, le-ltb maxBatch (length b / 3) h, whole-is b g, p, q)
+-- as they are looked for; d and o tell of disorder and of a coordinate outside
+pub looked-long : (b : List ℤ) (w r : ℕ) → maxBatch < length b / 3 → r ≡ bitOr w (cond true (2 ^ (3 % 64)) 0) → r ≡ wordOn w (looked b)
+looked-long b w r h e =
+    let three : ltb maxBatch (length (entries b)) ≡ true = rw (entries-length b) (lt-ltb maxBatch (length b / 3) h) in
+    let rest : wordOn w ((4, false) ∷ (5, false) ∷ []) ≡ w = due-not 4 w ((5, false) ∷ []) ∙ due-not 5 w [] ∙ sym (none-added w) in
+    rw three (due-added 3 w true ((4, false) ∷ (5, false) ∷ []) e refl refl (sym rest))
+
+pub looked-short : (b : List ℤ) (w v r : ℕ) (d o : Bool) → length b / 3 ≤ maxBatch → v ≡ bitOr w (cond o (2 ^ (5 % 64)) 0) → o ≡ outside (entries b) → r ≡ bitOr v (cond d (2 ^ (4 % 64)) 0) → d ≡ disorder b → r ≡ wordOn w (looked b)
+looked-short b w v r d o h e p f q =
+    let three : ltb maxBatch (length (entries b)) ≡ false = rw (entries-length b) (le-ltb maxBatch (length b / 3) h) in
+    let five : v ≡ wordOn w ((5, outside (entries b)) ∷ []) = due-added 5 w (outside (entries b)) [] e refl p (none-added w) in
+    let both : List (ℕ × Bool) = (4, disorder b) ∷ (5, outside (entries b)) ∷ [] in
+    rw three (due-added 4 w (disorder b) ((5, outside (entries b)) ∷ []) f refl q five ∙ sym (due-not 3 w both))

@@ -5,3 +5,4 @@ pub mod FloorLaws
 pub mod RadiusLaws
 pub mod SignedLaws
 pub mod SizeLaws
+pub mod WordLaws

@@ -3,14 +3,13 @@ use Prim.Native.Nat.{ℕ, zero, suc, _%_, _≤_}
 use mathlib.Core.Path.{_≡_}
 use mathlib.Core.Bool.{Bool, true, false, not, cond, _||_, Bool·beq}
 use mathlib.Core.List.{List, [], _∷_}
-use lib.Dec.{eqb, ltb}
+use lib.Dec.{eqb}
 use lib.ListN.{length, take}
 use lib.IntN.{ℤ, pos, negsuc}
 use Rattle.model.specs.Batch.{Batch, write}
-use Rattle.model.specs.Limits.{maxBatch}
 use Rattle.model.specs.Map.{Entry}
 use Rattle.model.specs.Maps.{keys}
-use Rattle.model.specs.Refusal.{firstOf, unsorted, outside}
+use Rattle.model.specs.Refusal.{unsorted}
 use Rattle.table.specs.Listed.{values}
 use Rattle.table.specs.Tables.{Table}
 
@@ -34,10 +33,6 @@ ragged b = not (eqb (length b % 3) 0)
 -- 4: a batch that cannot be read is none that ascends (docs/DIFFERENCES.md)
 abbrev pub disorder : List ℤ → Bool
 disorder b = ragged b || unsorted (entries b)
-
--- 3, 4 and 5 of the model's `judge`, in its order; and 4 of a ragged batch, of which the model has none
-unfoldable pub refuseBatch : List ℤ → ℕ
-refuseBatch b = firstOf ((3, ltb maxBatch (length (entries b))) ∷ (4, disorder b) ∷ (5, outside (entries b)) ∷ [])
 
 -- an entry on a cell that is occupied or not alters it
 abbrev pub alters : Bool → Bool → Bool

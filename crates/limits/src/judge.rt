@@ -1,4 +1,5 @@
 // What is refused before a batch is tried (RULES 4.1: refusals 1, 3, 4 and 5).
+use crate::due::due;
 use sizes::BATCH;
 use sizes::LEAST_COORDINATE;
 use sizes::MOST_COORDINATE;
@@ -7,7 +8,8 @@ ghost use mathlib.Core.Bool.{_&&_, _||_};
 ghost use lib.Signed.{leZ, ltZ};
 ghost use Rattle.model.specs.Limits.{maxCoordinate};
 ghost use Rattle.model.specs.Refusal.{badSize, offMap, outside, unsorted};
-ghost use Rattle.limits.specs.Batches.{entries, refuseBatch};
+ghost use Rattle.limits.specs.Batches.{disorder, entries};
+ghost use Rattle.limits.specs.Words.{looked, wordOn};
 
 // 1: the cell size.
 pub fn bad_size(size: f64) -> bool
@@ -74,22 +76,22 @@ fn outside(batch: &[i64]) -> bool
     false
 }
 
-// 3, 4 and 5, in this order, and 0 for none. A number or two at the end that are no entry are refused with 4: an entry that
-// was handed over short is not passed over.
-pub fn refuse_batch(batch: &[i64]) -> u8
-    ensures { λ r. ⌜ r ≡ refuseBatch (now (batch .entry)) ⌝ }
+// 4: also a number or two at the end that are no entry: an entry that was handed over short is not passed over.
+fn disorder(batch: &[i64]) -> bool
+    ensures { λ r. ⌜ r ≡ disorder (now (batch .entry)) ⌝ }
+{
+    if batch.len() % 3 != 0 {
+        return true;
+    }
+    unsorted(batch)
+}
+
+// The others, and 3, or 4 and 5: the entries of a batch that is too long are not looked at.
+pub fn batch_due(others: u64, batch: &[i64]) -> u64
+    ensures { λ r. ⌜ r ≡ wordOn others (looked (now (batch .entry))) ⌝ }
 {
     if BATCH < batch.len() / 3 {
-        return 3;
+        return due(others, 3, true);
     }
-    if batch.len() % 3 != 0 {
-        return 4;
-    }
-    if unsorted(batch) {
-        return 4;
-    }
-    if outside(batch) {
-        return 5;
-    }
-    0
+    due(due(others, 5, outside(batch)), 4, disorder(batch))
 }

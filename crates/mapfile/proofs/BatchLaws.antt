@@ -15,7 +15,7 @@ use Rattle.mapfile.specs.declared.head.Expected.{Expected}
 use Rattle.ieee.proofs.Tools.{lt-or-ge}
 use Rattle.limits.specs.Batches.{entries, isFull, ragged}
 use Rattle.limits.proofs.EntryLaws.{whole-is}
-use Rattle.model.proofs.RunLaws.{or-parts}
+use Rattle.model.proofs.DueLaws.{or-parts}
 use Rattle.model.specs.Map as map
 use Rattle.model.specs.MapFile as model
 use Rattle.model.specs.MapFile.{badFlag, entryBytes, takeBatch}

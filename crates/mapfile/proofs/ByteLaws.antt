@@ -3,15 +3,16 @@ use Prim.Native.Nat.{ℕ, suc, _+_, _*_, _/_, _%_, _≤_, _<_}
 use native.Mathlib.Nat.{not-suc-le-zero}
 use native.Mathlib.Omega.{arith}
 use mathlib.Core.Path.{_≡_, refl, sym, ap, _∙_}
-use mathlib.Core.Bool.{Bool, true, false, not, cond, _&&_}
+use mathlib.Core.Bool.{Bool, true, false, not, cond, _&&_, _||_}
 use mathlib.Core.List.{List, [], _∷_, _++_}
 use lib.Dec.{eqb, ltb}
 use lib.ListN.{length, take, drop, getD, length-append, length-drop, List·getD-append}
 use lib.Seq.{drop-append-le, take-append-le}
 use borrow.Author.Tests.{eq-eqb, eqb-true, le-ltb, ltb-false, not-false}
 use Rattle.model.specs.MapFile.{Expected, Reader, Reading, badFlag, batches, due, end, entries, entryBytes, fitting, float64, more, oneField, onward, placed, radius, refused, size, sized, takeBatch, takeEnd, takeRadius, takeSize, taken}
+use Rattle.model.proofs.DueLaws.{or-parts}
 use Rattle.model.specs.Map.{batch}
-use Rattle.model.specs.Refusal.{badRadius, badSize, firstOf, nothing, opened, refusal, step}
+use Rattle.model.specs.Refusal.{badRadius, badSize, firstDue, isDue, nothing, opened, refusal, step}
 use Rattle.mapfile.specs.Fields.{dueAt, lengthAt}
 use Rattle.mapfile.specs.Windows.{extend}
 use Rattle.mapfile.proofs.HeadLaws.{Long}
@@ -55,15 +56,14 @@ record Passed (t n : ℕ) (b : List ℕ) : Type 0 where
   flags : eqb t 3 && badFlag (n / entryBytes) (take n b) ≡ false
 
 all-passed : (t n : ℕ) (b : List ℕ) → due t n b ≡ 0 → Passed t n b
-unfolding firstOf
+unfolding firstDue isDue
 all-passed t n b h =
     let flags : Bool = eqb t 3 && badFlag (n / entryBytes) (take n b) in
-    let there : ℕ = cond (ltb (length b) n) 10 (cond flags 10 0) in
-    let p = passed (eqb t 3 && ltb 2304 n) 3 (cond (not (fitting t n)) 10 there) (λ z. omega arith) h in
-    let q = passed (not (fitting t n)) 10 there (λ z. omega arith) (p .1) in
-    let r = passed (ltb (length b) n) 10 (cond flags 10 0) (λ z. omega arith) (q .1) in
-    let s = passed flags 10 0 (λ z. omega arith) (r .1) in
-    record { short = p .0; fits = not-false (fitting t n) (q .0); there = ltb-false (length b) n (r .0); flags = s .0 }
+    let value : Bool = not (fitting t n) || ltb (length b) n || flags in
+    let p = passed (eqb t 3 && ltb 2304 n) 3 (cond value 10 0) (λ z. omega arith) h in
+    let q = or-parts (not (fitting t n) || ltb (length b) n) flags (passed value 10 0 (λ z. omega arith) (p .1) .0) in
+    let r = or-parts (not (fitting t n)) (ltb (length b) n) (q .0) in
+    record { short = p .0; fits = not-false (fitting t n) (r .0); there = ltb-false (length b) n (r .1); flags = q .1 }
 
 module _ (e : Expected) (b : List ℕ) (h : dueAt e b ≡ 0) where
   three : (3 ≤ length b) × (cond (placed e (getD b 0 0)) (due (getD b 0 0) (lengthAt b) (drop 3 b)) 10 ≡ 0)
@@ -105,13 +105,13 @@ fit-short t n = go (eqb t 3) (eqb t 255)
     go false false h k = let e = eqb-true n 8 k in omega arith
 
 due-same : (t n : ℕ) (b m : List ℕ) → 2304 ≤ length b → due t n (b ++ m) ≡ due t n b
-unfolding firstOf
+unfolding firstDue isDue
 due-same t n b m l = go (eqb t 3 && ltb 2304 n) (fitting t n) refl refl
   where
-    value : List ℕ → ℕ
-    value c = cond (ltb (length c) n) 10 (cond (eqb t 3 && badFlag (n / entryBytes) (take n c)) 10 0)
+    value : Bool → List ℕ → ℕ
+    value q c = cond (not q || ltb (length c) n || (eqb t 3 && badFlag (n / entryBytes) (take n c))) 10 0
 
-    go : (p q : Bool) → Long t n p → fitting t n ≡ q → cond p 3 (cond (not q) 10 (value (b ++ m))) ≡ cond p 3 (cond (not q) 10 (value b))
+    go : (p q : Bool) → Long t n p → fitting t n ≡ q → cond p 3 (value q (b ++ m)) ≡ cond p 3 (value q b)
     go true q h k = refl
     go false false h k = refl
     go false true h k =

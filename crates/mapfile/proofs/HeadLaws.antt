@@ -11,7 +11,7 @@ use borrow.Author.Tests.{eq-eqb, ne-eqb, lt-ltb, le-ltb}
 use Rattle.table.proofs.Parts.{tail-is}
 use Rattle.model.specs.MapFile.{badFlag, due, entryBytes, fitting, placed}
 use Rattle.model.specs.MapFile as model
-use Rattle.model.specs.Refusal.{firstOf}
+use Rattle.model.specs.Refusal.{firstDue, isDue}
 use Rattle.mapfile.specs.Fields.{dueAt, headOf, lengthAt}
 use Rattle.mapfile.specs.declared.head.Head.{Head}
 
@@ -44,19 +44,19 @@ module _ (t n : ℕ) where
 
 module _ (t n : ℕ) (b : List ℕ) where
   pub due-long : Long t n true → 3 ≡ due t n b
-  unfolding firstOf
+  unfolding firstDue isDue
   due-long h = rw h refl
 
   pub due-unfit : Long t n false → fitting t n ≡ false → 10 ≡ due t n b
-  unfolding firstOf
+  unfolding firstDue isDue
   due-unfit h k = rw (h, k) refl
 
   pub due-lacking : Long t n false → fitting t n ≡ true → length b < n → 10 ≡ due t n b
-  unfolding firstOf
+  unfolding firstDue isDue
   due-lacking h k l = rw (h, k, lt-ltb (length b) n l) refl
 
   pub due-flags : Long t n false → fitting t n ≡ true → n ≤ length b → (a : Bool) → eqb t 3 && badFlag (n / entryBytes) (take n b) ≡ a → cond a 10 0 ≡ due t n b
-  unfolding firstOf
+  unfolding firstDue isDue
   due-flags h k l a f = rw (h, k, le-ltb (length b) n l, f) refl
 
   -- the flags of a batch, as a part of what follows has them

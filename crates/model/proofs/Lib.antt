@@ -14,6 +14,7 @@ pub mod Phase4
 pub mod LayerLaws
 pub mod KeyLaws
 pub mod TestLaws
+pub mod DueLaws
 pub mod RunLaws
 pub mod Examples
 pub mod FindLaws

@@ -1,9 +1,9 @@
 -- What every operation, accepted or refused, keeps; and so every run. Assumes nothing.
 use Prim.Native.Nat.{ℕ, zero, suc, _≤_, zero-le}
-use native.Mathlib.Nat.{le-refl, suc-ne-zero}
+use native.Mathlib.Nat.{le-refl}
 use mathlib.Core.Path.{_≡_, refl, sym, ap, _∙_, subst}
 use mathlib.Core.Logic.{_≢_, _⊎_, inl, inr}
-use mathlib.Core.Bool.{Bool, true, false, not, cond, _||_, true≢false}
+use mathlib.Core.Bool.{Bool, false, not, cond, _||_}
 use mathlib.Core.List.{List, [], _∷_, _++_}
 use lib.Dec.{T, eqb, eqb→eq}
 use lib.ListN.{length}
@@ -20,19 +20,16 @@ use Rattle.model.specs.Batch.{Batch, cellsAfter, confirmed, cornerChange
 use Rattle.model.specs.Layer.{edge, line, update}
 use Rattle.model.specs.Good.{bitsIn, want, Inside, Good}
 use Rattle.model.specs.Map.{Map, Entry, Op, batch, radius, toBatch, shiftOf, tests, emptyLayer, fresh, changed, rebuilt, next}
-use Rattle.model.specs.Refusal.{Checks, firstOf, verdict, short, badSize, badRadius, before, unsorted, offMap, outside, crowded, packed, judge, refusal, unless, step, run, nothing, refuseOpen, opened}
+use Rattle.model.specs.Refusal.{isDue, firstDue, verdict, short, badSize, badRadius, before, unsorted, offMap, outside, crowded, packed, judge, refusal, unless, step, run, nothing, refuseOpen, opened}
 use Rattle.model.specs.Demand3.{recorded, accepted, told, history, lastWord, toldRadius, lastRadius, granted}
 use Rattle.model.proofs.OrderLaws.{asc-down, no-ltb}
 use Rattle.model.proofs.BatchLaws.{cells-last}
+use Rattle.model.proofs.DueLaws.{or-parts, passed}
 use Rattle.model.proofs.LayerLaws.{change-good, rebuild-good}
 use Rattle.model.proofs.KeyLaws.{Fair, key-inside, key-lt}
 use Rattle.model.proofs.TestLaws.{not-false, lawful, tests-shift}
 
 -- ---- a batch that passes its checks: its keys ascend, and lie inside the batch coordinates
-pub or-parts : (a b : Bool) → a || b ≡ false → (a ≡ false) × (b ≡ false)
-or-parts true b e = absurd (true≢false e)
-or-parts false b e = (refl, e)
-
 fair : (e : Entry) (l : List Entry) → outside (e ∷ l) ≡ false → Fair e × (outside l ≡ false)
 unfolding outside
 fair e l q =
@@ -68,45 +65,6 @@ batch-inside (a ∷ l) o x t = go (or-cases (eqb x (key (a .x) (a .y))) (has x (
     go (inl u) ih = subst (Inside maxCoordinate) (sym (eqb→eq x (key (a .x) (a .y)) u)) (key-inside (a .x) (a .y) (f .nearX) (f .nearY))
     go (inr u) ih = ih u
 
--- ---- what is answered with 0 has passed every check
-first-zero : (n : ℕ) (b : Bool) (l : List (ℕ × Bool)) → firstOf ((suc n, b) ∷ l) ≡ 0 → (b ≡ false) × (firstOf l ≡ 0)
-unfolding firstOf
-first-zero n true l e = absurd (suc-ne-zero n e)
-first-zero n false l e = (refl, e)
-
-pub record Passed (c : Checks) : Type 0 where
-  pub short : c .short ≡ false
-  pub size : c .size ≡ false
-  pub radius : c .radius ≡ false
-  pub long : c .long ≡ false
-  pub disorder : c .disorder ≡ false
-  pub outside : c .outside ≡ false
-  pub cells : c .cells ≡ false
-  pub points : c .points ≡ false
-  pub query : c .query ≡ false
-
-pub passed : (c : Checks) → verdict c ≡ 0 → Passed c
-unfolding verdict
-passed c e =
-    let l8 : List (ℕ × Bool) = (8, c .query) ∷ [] in
-    let l7 : List (ℕ × Bool) = (7, c .points) ∷ l8 in
-    let l6 : List (ℕ × Bool) = (6, c .cells) ∷ l7 in
-    let l5 : List (ℕ × Bool) = (5, c .outside) ∷ l6 in
-    let l4 : List (ℕ × Bool) = (4, c .disorder) ∷ l5 in
-    let l3 : List (ℕ × Bool) = (3, c .long) ∷ l4 in
-    let l2 : List (ℕ × Bool) = (2, c .radius) ∷ l3 in
-    let l1 : List (ℕ × Bool) = (1, c .size) ∷ l2 in
-    let e9 = first-zero 8 (c .short) l1 e in
-    let e1 = first-zero 0 (c .size) l2 (e9 .1) in
-    let e2 = first-zero 1 (c .radius) l3 (e1 .1) in
-    let e3 = first-zero 2 (c .long) l4 (e2 .1) in
-    let e4 = first-zero 3 (c .disorder) l5 (e3 .1) in
-    let e5 = first-zero 4 (c .outside) l6 (e4 .1) in
-    let e6 = first-zero 5 (c .cells) l7 (e5 .1) in
-    let e7 = first-zero 6 (c .points) l8 (e6 .1) in
-    let e8 = first-zero 7 (c .query) [] (e7 .1) in
-    record { short = e9 .0; size = e1 .0; radius = e2 .0; long = e3 .0; disorder = e4 .0; outside = e5 .0; cells = e6 .0; points = e7 .0; query = e8 .0 }
-
 -- ---- a map that a call could give
 abbrev pub Sound : Map → Type 0
 Sound m = Good (shiftOf (m .size) (m .layer .radius)) (m .cells) (m .layer)
@@ -132,20 +90,20 @@ empty-sound s r =
 
 -- what an accepted operation leaves
 pub next-sound : (o : Op) (m : Map) → refusal o m ≡ 0 → Sound m → Sound (next o m)
-unfolding refusal judge next changed rebuilt update
+unfolding refusal judge next changed rebuilt update isDue
 next-sound (batch l) m e g =
     let p = passed _ e in
     let t = tests (m .size) (m .layer .radius) in
     let C = cellsAfter (toBatch l) (m .cells) in
     let ch = confirmed (toBatch l) (m .cells) in
     subst (λ (z : ℕ). Good z C (update t C ch (cornerChanges (m .cells) C ch) (m .layer))) (tests-shift (m .size) (m .layer .radius))
-    (change-good t (lawful (m .size) (m .layer .radius) (p .radius)) (m .cells) (m .layer) (subst (λ (z : ℕ). Good z (m .cells) (m .layer)) (sym (tests-shift (m .size) (m .layer .radius))) g)
-    (toBatch l) (batch-ascends l (p .disorder) (p .outside)) (batch-inside l (p .outside)))
+    (change-good t (lawful (m .size) (m .layer .radius) (p 2 tt)) (m .cells) (m .layer) (subst (λ (z : ℕ). Good z (m .cells) (m .layer)) (sym (tests-shift (m .size) (m .layer .radius))) g)
+    (toBatch l) (batch-ascends l (p 4 tt) (p 5 tt)) (batch-inside l (p 5 tt)))
 next-sound (radius r) m e g =
     let p = passed _ e in
     let t = tests (m .size) r in
     subst (λ (z : ℕ). Good z (m .cells) (update t (m .cells) [] (cornerCells (m .cells)) (emptyLayer r))) (tests-shift (m .size) r)
-    (rebuild-good t (lawful (m .size) r (or-parts (badRadius (m .size) (m .layer .radius)) (badRadius (m .size) r) (p .radius) .1)) (m .cells) (g .cellOrder) (g .inside) r)
+    (rebuild-good t (lawful (m .size) r (or-parts (badRadius (m .size) (m .layer .radius)) (badRadius (m .size) r) (p 2 tt) .1)) (m .cells) (g .cellOrder) (g .inside) r)
 
 -- whatever an accepted operation keeps, every operation keeps, and every run
 pub run-keeps : (P : Map → Type 0) → ((o : Op) (m : Map) → refusal o m ≡ 0 → P m → P (next o m)) → (os : List Op) (m : Map) → P m → P (run os m)
@@ -244,15 +202,15 @@ roomy : (m : Map) → crowded m ≡ false → packed m ≡ false → Roomy m
 roomy m p q = (no-ltb maxCells (length (m .cells)) p, no-ltb maxPoints (length (m .layer .points)) q)
 
 pub next-roomy : (o : Op) (m : Map) → refusal o m ≡ 0 → Roomy (next o m)
-unfolding refusal judge
+unfolding refusal judge isDue
 next-roomy (batch l) m e =
     let p = passed _ e in
     let n = next (batch l) m in
-    roomy n (or-parts (crowded m) (crowded n) (p .cells) .1) (or-parts (packed m) (packed n) (p .points) .1)
+    roomy n (or-parts (crowded m) (crowded n) (p 6 tt) .1) (or-parts (packed m) (packed n) (p 7 tt) .1)
 next-roomy (radius r) m e =
     let p = passed _ e in
     let n = next (radius r) m in
-    roomy n (same-cells ∙ p .cells) (or-parts (packed m) (packed n) (p .points) .1)
+    roomy n (same-cells ∙ p 6 tt) (or-parts (packed m) (packed n) (p 7 tt) .1)
   where
     same-cells : crowded (next (radius r) m) ≡ crowded m
     same-cells = unfold next rebuilt in refl
@@ -270,7 +228,7 @@ refused-step o m h = go (judge [] o m (next o m)) refl
     go (suc n) e = refl
 
 nothing-refuses : (o : Op) → refusal o nothing ≡ 1
-unfolding refusal judge verdict firstOf short badSize le lt eq
+unfolding refusal judge verdict firstDue isDue short badSize le lt eq
 nothing-refuses (batch l) = refl
 nothing-refuses (radius r) = refl
 

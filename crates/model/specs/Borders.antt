@@ -7,16 +7,16 @@ use mathlib.Core.Option.{Option, none, some}
 use lib.Dec.{T, eqb}
 use lib.ListN.{length, replicate}
 use lib.IntN.{ℤ, pos, negsuc}
-use lib.Ieee.{Float, binary64, div, ofBits, fin}
+use lib.Ieee.{Float, binary64, div, ofBits, fin, nan}
 use Rattle.ieee.specs.Constants.{nought, pow2}
 use Rattle.model.specs.Maps.{find, isSome, has}
 use Rattle.model.specs.Corner.{zero4}
 use Rattle.model.specs.Plane.{Pt, centre}
 use Rattle.model.specs.Segment.{passesNear}
-use Rattle.model.specs.Shape.{Found, pointTest, circleTest, sweepTest}
+use Rattle.model.specs.Shape.{Found, point, pointTest, circleTest, sweepTest}
 use Rattle.model.specs.Layer.{Point, Pair, link}
-use Rattle.model.specs.Map.{Map, Op, batch, radius, fresh}
-use Rattle.model.specs.Refusal.{badSize, badRadius, judge, refusal, step, opened}
+use Rattle.model.specs.Map.{Map, Entry, Op, batch, radius, fresh}
+use Rattle.model.specs.Refusal.{badSize, badRadius, refuseOpen, refuseQuestion, judge, refusal, step, opened}
 use Rattle.model.specs.Answers.{changedCorners, visibleFrom, openPairs, neighbours}
 use Rattle.model.specs.Blocks.{blockCount}
 use Rattle.model.specs.Listing.{text, summary, listing}
@@ -90,6 +90,23 @@ borders =
       "cells that touch at a corner are two blocks, at a side one",
       eqb (blockCount (at (pos 0) (pos 0) ∷ at (pos 1) (pos 1) ∷ [])) 2 && eqb (blockCount (at (pos 0) (pos 0) ∷ at (pos 0) (pos 1) ∷ at (pos 1) (pos 1) ∷ [])) 1,
     )
+    ∷ []
+
+-- ---- the order of refusals, each number against the next: both are due, and once the first is mended the second is answered
+-- a batch on a map that it would leave as it is
+unfoldable pub judged : List Entry → Map → ℕ
+judged l m = judge [] (batch l) m m
+
+unfoldable pub orders : List (String × Bool)
+orders =
+    ("9 before 1", eqb (refuseOpen ((0, 1) ∷ []) nought nought) 9 && eqb (refuseOpen [] nought nought) 1)
+    ∷ ("1 before 2", eqb (refuseOpen [] nought nan) 1 && eqb (refuseOpen [] c nan) 2)
+    ∷ ("2 before 3", eqb (judged (replicate 257 (fill (pos 0) (pos 0))) (fresh c nan)) 2 && eqb (judged (replicate 257 (fill (pos 0) (pos 0))) (fresh c nought)) 3)
+    ∷ ("3 before 4", eqb (judged (replicate 257 (fill (pos 0) (pos 0))) (fresh c nought)) 3 && eqb (judged (replicate 256 (fill (pos 0) (pos 0))) (fresh c nought)) 4)
+    ∷ ("4 before 5", eqb (judged (fill (pos 2000000) (pos 0) ∷ fill (pos 0) (pos 0) ∷ []) (fresh c nought)) 4 && eqb (judged (fill (pos 2000000) (pos 0) ∷ []) (fresh c nought)) 5)
+    ∷ ("5 before 6", eqb (judged (fill (pos 2000000) (pos 0) ∷ []) (filled 1025 0)) 5 && eqb (judged [] (filled 1025 0)) 6)
+    ∷ ("6 before 7", eqb (judged [] (filled 1025 65)) 6 && eqb (judged [] (filled 1024 65)) 7)
+    ∷ ("7 before 8", eqb (refuseQuestion [] (filled 0 65) (point (record { x = nan; y = nought }))) 7 && eqb (refuseQuestion [] (filled 0 64) (point (record { x = nan; y = nought }))) 8)
     ∷ []
 
 -- ---- answers

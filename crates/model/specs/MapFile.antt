@@ -9,7 +9,7 @@ use lib.Ieee.{Float, binary64, ofBits}
 use Rattle.ieee.specs.Constants.{nought}
 use Rattle.model.specs.Limits.{maxBatch}
 use Rattle.model.specs.Map.{Map, Entry, batch}
-use Rattle.model.specs.Refusal.{firstOf, badSize, badRadius, refusal, step, nothing, opened}
+use Rattle.model.specs.Refusal.{firstDue, badSize, badRadius, refusal, step, nothing, opened}
 
 -- ---- numbers, big-endian
 unfoldable pub bigEndian : ℕ → List ℕ → ℕ
@@ -100,7 +100,7 @@ taken end r t v rest = refused 10 (r .field)
 -- the length before the value: 3 for a well-placed 03 that is too long, whether its value is there or not; else 10. b is what follows the length
 abbrev pub due : ℕ → ℕ → List ℕ → ℕ
 due t n b =
-    firstOf ((3, eqb t 3 && ltb (entryBytes * maxBatch) n) ∷ (10, not (fitting t n)) ∷ (10, ltb (length b) n) ∷ (10, eqb t 3 && badFlag (n / entryBytes) (take n b)) ∷ [])
+    firstDue (3 ∷ 10 ∷ []) ((3, eqb t 3 && ltb (entryBytes * maxBatch) n) ∷ (10, not (fitting t n) || ltb (length b) n || (eqb t 3 && badFlag (n / entryBytes) (take n b))) ∷ [])
 
 unfoldable pub sized : Reader → ℕ → ℕ → List ℕ → Reading
 sized r t n b =

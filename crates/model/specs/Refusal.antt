@@ -1,8 +1,8 @@
--- Refusals 1 to 9, their order, and runs with refused operations among them (RULES 4). Definitions only.
+-- Refusals 1 to 9, their one order, and runs with refused operations among them (RULES 4). Definitions only.
 use Prim.Native.Nat.{ℕ, zero, suc, _+_}
 use mathlib.Core.Bool.{Bool, true, false, not, cond, _&&_, _||_}
 use mathlib.Core.List.{List, [], _∷_}
-use lib.Dec.{ltb}
+use lib.Dec.{eqb, ltb}
 use lib.ListN.{length}
 use lib.IntN.{ℤ, pos, natAbs}
 use lib.Signed.{leZ, ltZ}
@@ -16,25 +16,25 @@ use Rattle.model.specs.Plane.{Pt}
 use Rattle.model.specs.Shape.{Question, point, square, circle, sweep}
 use Rattle.model.specs.Map.{Map, Entry, Op, batch, radius, fresh, next}
 
--- ---- the order, in one place: the first check that is due names the refusal; 0 is done
-pub record Checks : Type 0 where
-  pub short : Bool
-  pub size : Bool
-  pub radius : Bool
-  pub long : Bool
-  pub disorder : Bool
-  pub outside : Bool
-  pub cells : Bool
-  pub points : Bool
-  pub query : Bool
+-- ---- the order, in one place
+abbrev pub order : List ℕ
+order = 9 ∷ 1 ∷ 2 ∷ 3 ∷ 4 ∷ 5 ∷ 6 ∷ 7 ∷ 8 ∷ []
 
-unfoldable pub firstOf : List (ℕ × Bool) → ℕ
-firstOf [] = 0
-firstOf (t ∷ l) = let r = firstOf l in cond (t .1) (t .0) r
+-- what a call is judged by: the numbers that concern it, each with whether it is due; one that is not named is not due, one that is named twice is due if either says so
+abbrev pub Dues : Type 0
+Dues = List (ℕ × Bool)
 
-unfoldable pub verdict : Checks → ℕ
-verdict c =
-    firstOf ((9, c .short) ∷ (1, c .size) ∷ (2, c .radius) ∷ (3, c .long) ∷ (4, c .disorder) ∷ (5, c .outside) ∷ (6, c .cells) ∷ (7, c .points) ∷ (8, c .query) ∷ [])
+unfoldable pub isDue : ℕ → Dues → Bool
+isDue n [] = false
+isDue n (d ∷ l) = let r = isDue n l in cond (eqb n (d .0)) (r || d .1) r
+
+unfoldable pub firstDue : List ℕ → Dues → ℕ
+firstDue [] d = 0
+firstDue (n ∷ ns) d = let r = firstDue ns d in cond (isDue n d) n r
+
+-- the first number of the order that is due; 0 is done
+unfoldable pub verdict : Dues → ℕ
+verdict d = firstDue order d
 
 -- ---- 9: a lent buffer is shorter than its fixed need; each with its length, then its need
 unfoldable pub short : List (ℕ × ℕ) → Bool
@@ -93,68 +93,49 @@ badQuestion (square p w) = badPoint p || badLength w
 badQuestion (circle p r) = badPoint p || badLength r
 badQuestion (sweep p q w) = badPoint p || badPoint q || badLength w
 
--- ---- each call: the lent buffers, the map handed in, and the state afterwards are judged together
+-- ---- each call names the numbers that concern it: the lent buffers, the map handed in, and the state afterwards are judged together
 -- opening
 unfoldable pub refuseOpen : List (ℕ × ℕ) → Float → Float → ℕ
-refuseOpen lent c r =
-    verdict (record { short = short lent; size = badSize c; radius = badRadius c r; long = false; disorder = false; outside = false; cells = false; points = false; query = false })
+refuseOpen lent c r = verdict ((9, short lent) ∷ (1, badSize c) ∷ (2, badRadius c r) ∷ [])
 
--- a call that leaves the map as it is: whether a coordinate is outside, whether a query number is bad
-unfoldable pub refuseAsking : List (ℕ × ℕ) → Map → Bool → Bool → ℕ
-refuseAsking lent m off bad =
-    verdict
-    (record {
-      short = short lent;
-      size = badSize (m .size);
-      radius = badRadius (m .size) (m .layer .radius);
-      long = false;
-      disorder = false;
-      outside = off;
-      cells = crowded m;
-      points = packed m;
-      query = bad;
-    })
+-- a call that leaves the map as it is: what each of them is judged by, and what this one is besides
+unfoldable pub refuseAsking : List (ℕ × ℕ) → Map → Dues → ℕ
+refuseAsking lent m more =
+    verdict ((9, short lent) ∷ (1, badSize (m .size)) ∷ (2, badRadius (m .size) (m .layer .radius)) ∷ (6, crowded m) ∷ (7, packed m) ∷ more)
 
 -- a list, or whether one cell is occupied
 abbrev pub refuseList : List (ℕ × ℕ) → Map → ℕ
-refuseList lent m = refuseAsking lent m false false
+refuseList lent m = refuseAsking lent m []
 
 -- visibility from a cell, or its neighbours
 abbrev pub refuseCell : List (ℕ × ℕ) → Map → ℤ → ℤ → ℕ
-refuseCell lent m x y = refuseAsking lent m (offMap (maxCoordinate + beyond) x || offMap (maxCoordinate + beyond) y) false
+refuseCell lent m x y = refuseAsking lent m ((5, offMap (maxCoordinate + beyond) x || offMap (maxCoordinate + beyond) y) ∷ [])
 
 -- a question of four shapes
 abbrev pub refuseQuestion : List (ℕ × ℕ) → Map → Question → ℕ
-refuseQuestion lent m q = refuseAsking lent m false (badQuestion q)
+refuseQuestion lent m q = refuseAsking lent m ((8, badQuestion q) ∷ [])
 
 -- an operation that would leave m′
 unfoldable pub judge : List (ℕ × ℕ) → Op → Map → Map → ℕ
 judge lent (batch l) m m′ =
     verdict
-    (record {
-      short = short lent;
-      size = badSize (m .size);
-      radius = badRadius (m .size) (m .layer .radius);
-      long = ltb maxBatch (length l);
-      disorder = unsorted l;
-      outside = outside l;
-      cells = crowded m || crowded m′;
-      points = packed m || packed m′;
-      query = false;
-    })
+    ((9, short lent)
+    ∷ (1, badSize (m .size))
+    ∷ (2, badRadius (m .size) (m .layer .radius))
+    ∷ (3, ltb maxBatch (length l))
+    ∷ (4, unsorted l)
+    ∷ (5, outside l)
+    ∷ (6, crowded m || crowded m′)
+    ∷ (7, packed m || packed m′)
+    ∷ [])
 judge lent (radius r) m m′ =
     verdict
-    (record {
-      short = short lent;
-      size = badSize (m .size);
-      radius = badRadius (m .size) (m .layer .radius) || badRadius (m .size) r;
-      long = false;
-      disorder = false;
-      outside = false;
-      cells = crowded m;
-      points = packed m || packed m′;
-      query = false;
-    })
+    ((9, short lent)
+    ∷ (1, badSize (m .size))
+    ∷ (2, badRadius (m .size) (m .layer .radius) || badRadius (m .size) r)
+    ∷ (6, crowded m)
+    ∷ (7, packed m || packed m′)
+    ∷ [])
 
 -- ---- runs; here every lent buffer is long enough
 unfoldable pub refusal : Op → Map → ℕ

@@ -18,11 +18,11 @@ use Rattle.model.specs.Limits.{leastSize, mostSize, maxQuery}
 use Rattle.model.specs.Plane.{Pt, minus, norm, tiny}
 use Rattle.model.specs.Segment.{Seg, verticalAt, checkMin, checkMax}
 use Rattle.model.specs.Shape.{Strip, stripOf, ends, sides, lesser, greater, leftmost, rightmost, endsIn, sidesAt, heights, search, point, square, circle, sweep}
-use Rattle.model.specs.Refusal.{badSize, badNumber, badLength, badPoint, refuseAsking}
+use Rattle.model.specs.Refusal.{badSize, badNumber, badLength, badPoint, isDue, refuseAsking}
 use Rattle.model.specs.Refusal as model
 use Rattle.model.proofs.MapLaws.{T→true}
 use Rattle.model.proofs.TestLaws.{not-false}
-use Rattle.model.proofs.RunLaws.{passed}
+use Rattle.model.proofs.DueLaws.{passed}
 use Rattle.no_panics.specs.Casts.{Casts, BoxCasts, PointCasts, Finite, StripCasts, QuestionSafe, AnsweredSafe}
 use Rattle.ieee.proofs.Within.{Within, abs-within, within-finite, within-wide, within-abs, within-add, within-sub, within-div}
 use Rattle.no_panics.proofs.Ladder.{cornerMost, spanRise}
@@ -270,5 +270,5 @@ question-safe c (sweep p q w) l =
     (λ h. point-casts c p k (place-of p (s .0)), λ h. sweep-casts c p q w k (place-of p (s .0)) (place-of q (s .1)) (length-of w (r .1)) h)
 
 pub answered-safe : AnsweredSafe
-unfolding refuseAsking
-answered-safe lent m q e = let p = passed _ e in question-safe (m .size) q (p .size, p .query)
+unfolding refuseAsking isDue
+answered-safe lent m q e = let p = passed _ e in question-safe (m .size) q (p 1 tt, p 8 tt)

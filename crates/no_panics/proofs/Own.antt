@@ -32,12 +32,13 @@ use Rattle.model.specs.Good.{Inside}
 use Rattle.model.specs.Layer.{Point}
 use Rattle.model.specs.Map.{Map, Op, batch, radius, shiftOf, next, changed, rebuilt}
 use Rattle.model.specs.Layer.{update}
-use Rattle.model.specs.Refusal.{badSize, badRadius, offMap, refuseOpen, refuseAsking, refuseCell, judge, refusal, run, opened}
+use Rattle.model.specs.Refusal.{badSize, badRadius, isDue, offMap, refuseOpen, refuseAsking, refuseCell, judge, refusal, run, opened}
 use Rattle.model.specs.Refusal as model
 use Rattle.model.proofs.MapLaws.{T→true, has-cases}
 use Rattle.model.proofs.OrderLaws.{no-ltb}
 use Rattle.model.proofs.TestLaws.{not-false, shift-le}
-use Rattle.model.proofs.RunLaws.{passed, Sound, next-sound, open-sound, run-keeps, opened-is}
+use Rattle.model.proofs.DueLaws.{passed}
+use Rattle.model.proofs.RunLaws.{Sound, next-sound, open-sound, run-keeps, opened-is}
 use Rattle.model.proofs.PointPlaces.{point-inside}
 use Rattle.no_panics.specs.Casts.{Own, stands, asked, inner, OwnSafe, RunSafe}
 use Rattle.no_panics.proofs.Casts.{Size, Place, Length, size-finite, least-above, size-of, or-no, point-casts, square-casts, sweep-casts}
@@ -175,13 +176,13 @@ abbrev Kept : Map → Type 0
 Kept m = ((badSize (m .size) ≡ false) × (badRadius (m .size) (m .layer .radius) ≡ false)) ⊎ (m .layer .points ≡ [])
 
 next-kept : (o : Op) (m : Map) → refusal o m ≡ 0 → Kept m → Kept (next o m)
-unfolding refusal judge next changed rebuilt update
-next-kept (batch l) m e k = let p = passed _ e in inl (p .size, p .radius)
-next-kept (radius r) m e k = let p = passed _ e in inl (p .size, or-no (badRadius (m .size) (m .layer .radius)) (badRadius (m .size) r) (p .radius) .1)
+unfolding refusal judge next changed rebuilt update isDue
+next-kept (batch l) m e k = let p = passed _ e in inl (p 1 tt, p 2 tt)
+next-kept (radius r) m e k = let p = passed _ e in inl (p 1 tt, or-no (badRadius (m .size) (m .layer .radius)) (badRadius (m .size) r) (p 2 tt) .1)
 
 open-kept : (c r : Float) → Kept (opened c r)
-unfolding refuseOpen
-open-kept c r = opened-is Kept c r (λ e. let p = passed _ e in inl (p .size, p .radius)) (inr refl)
+unfolding refuseOpen isDue
+open-kept c r = opened-is Kept c r (λ e. let p = passed _ e in inl (p 1 tt, p 2 tt)) (inr refl)
 
 -- ---- the cells of a map's own questions are close
 -- a column, or row, at most so far from the origin's
@@ -237,10 +238,10 @@ about u v a b =
 
 -- a question about the cell (x, y) that is not refused
 asked-close : (lent : List (ℕ × ℕ)) (m : Map) (x y : ℤ) → refuseCell lent m x y ≡ 0 → (k : ℕ) → T (has k (around (key x y))) → Close k
-unfolding refuseAsking key
+unfolding refuseAsking isDue key
 asked-close lent m x y e k t =
     let p = passed _ e in
-    let o = or-no (offMap (maxCoordinate + beyond) x) (offMap (maxCoordinate + beyond) y) (p .outside) in
+    let o = or-no (offMap (maxCoordinate + beyond) x) (offMap (maxCoordinate + beyond) y) (p 5 tt) in
     one-of k (around (biased x * W + biased y)) (about (biased x) (biased y) (off x (o .0)) (off y (o .1))) t
 
 -- a point
@@ -264,11 +265,11 @@ stands-close m b g k t = go (get k (m .layer .points)) refl
 -- ---- the theorem
 -- a cell of a map's own questions: the map is within its limits, and the cell is close
 own-close : (m : Map) → Sound m → Kept m → (k : ℕ) → Own m k → ((badSize (m .size) ≡ false) × (badRadius (m .size) (m .layer .radius) ≡ false)) × Close k
-unfolding refuseAsking
+unfolding refuseAsking isDue
 own-close m g (inl l) k (stands t) = (l, stands-close m (l .1) g k t)
 own-close m g (inr e) k (stands t) = absurd (let z : T false = unfold get in rw e at t in z)
-own-close m g d k (asked lent x y e t) = let p = passed _ e in ((p .size, p .radius), asked-close lent m x y e k t)
-own-close m g d k (inner lent e i) = let p = passed _ e in ((p .size, p .radius), i)
+own-close m g d k (asked lent x y e t) = let p = passed _ e in ((p 1 tt, p 2 tt), asked-close lent m x y e k t)
+own-close m g d k (inner lent e i) = let p = passed _ e in ((p 1 tt, p 2 tt), i)
 
 pub own-safe : RunSafe
 own-safe c r os p q v w =

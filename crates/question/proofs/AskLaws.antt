@@ -2,19 +2,21 @@
 use Prim.Native.Nat.{ℕ, _≤_, _<_}
 use native.Mathlib.Nat.{suc-ne-zero}
 use mathlib.Core.Path.{_≡_, refl, sym, ap, _∙_, subst}
-use mathlib.Core.Bool.{Bool, true, false, cond, or-false, true≢false}
-use mathlib.Core.List.{List}
+use mathlib.Core.Bool.{Bool, true, false, or-false, true≢false}
+use mathlib.Core.List.{List, [], _∷_}
 use mathlib.Core.Option.{Option, none, some}
 use lib.Dec.{ltb}
 use lib.ListN.{length, take}
 use lib.Ieee.{Float}
-use borrow.Author.Tests.{lt-ltb, le-ltb, ltb-false}
+use borrow.Author.Tests.{lt-ltb, ltb-false}
 use Rattle.model.specs.Good.{Inside}
-use Rattle.model.specs.Limits.{maxCoordinate}
+use Rattle.model.specs.Limits.{maxCells, maxCoordinate}
 use Rattle.model.specs.Maps.{AscL}
-use Rattle.model.proofs.RunLaws as model
-use Rattle.model.specs.Refusal.{firstOf, verdict, short, badSize}
+use Rattle.model.proofs.DueLaws as model
+use Rattle.model.specs.Refusal.{firstDue, isDue, order, verdict, short, badSize}
 use Rattle.model.specs.Shape.{Question, ask}
+use Rattle.limits.proofs.WordLaws.{judged}
+use Rattle.limits.specs.Words.{firstOn, wordOn}
 use Rattle.table.specs.Tables.{All}
 use Rattle.limits.specs.Floor.{Holds}
 use Rattle.limits.specs.declared.floor.Floor.{Floor}
@@ -28,31 +30,26 @@ use Rattle.question.specs.declared.ask.Place.{Place}
 use Rattle.question.specs.declared.search.Found.{Found}
 use Rattle.question.specs.declared.search.Question as code
 
+pub short-one : (room need : ℕ) → ltb room need ≡ short ((room, need) ∷ [])
+unfolding short
+short-one room need = sym (or-false (ltb room need))
+
 module _ (room : ℕ) (c : Float) (n : ℕ) (bad : Bool) where
-  in-turn : refuseFloor room c n bad ≡ cond (ltb room 1024) 9 (cond (badSize c) 1 (cond (ltb 1024 n) 6 (cond bad 8 0)))
-  unfolding refuseFloor verdict firstOf short
-  in-turn = rw (or-false (ltb room 1024)) refl
+  pub ask-short : room < maxCells → 9 ≡ refuseFloor room c n bad
+  unfolding refuseFloor verdict firstDue isDue short
+  ask-short h = rw (lt-ltb room maxCells h) refl
 
-  pub ask-short : room < 1024 → 9 ≡ refuseFloor room c n bad
-  ask-short h = rw (in-turn, lt-ltb room 1024 h) refl
-
-  module _ (h : 1024 ≤ room) where
-    pub ask-size : badSize c ≡ true → 1 ≡ refuseFloor room c n bad
-    ask-size s = rw (in-turn, le-ltb room 1024 h, s) refl
-
-    module _ (s : badSize c ≡ false) where
-      pub ask-crowded : 1024 < n → 6 ≡ refuseFloor room c n bad
-      ask-crowded w = rw (in-turn, le-ltb room 1024 h, s, lt-ltb 1024 n w) refl
-
-      pub ask-query : n ≤ 1024 → cond bad 8 0 ≡ refuseFloor room c n bad
-      ask-query w = rw (in-turn, le-ltb room 1024 h, s, le-ltb 1024 n w) refl
+  -- as a word
+  pub ask-judged : {w r : ℕ} → r ≡ firstOn order w → w ≡ wordOn 0 ((9, short ((room, maxCells) ∷ [])) ∷ (1, badSize c) ∷ (6, ltb maxCells n) ∷ (8, bad) ∷ []) → r ≡ refuseFloor room c n bad
+  unfolding refuseFloor
+  ask-judged = judged _
 
   -- what is not refused fits, and no query number is bad
-  pub ask-fits : refuseFloor room c n bad ≡ 0 → (1024 ≤ room) × (n ≤ 1024) × (bad ≡ false)
-  unfolding refuseFloor short
+  pub ask-fits : refuseFloor room c n bad ≡ 0 → (maxCells ≤ room) × (n ≤ maxCells) × (bad ≡ false)
+  unfolding refuseFloor isDue short
   ask-fits e =
       let p = model.passed _ e in
-      (ltb-false room 1024 (sym (or-false (ltb room 1024)) ∙ p .short), ltb-false 1024 n (p .cells), p .query)
+      (ltb-false room maxCells (sym (or-false (ltb room maxCells)) ∙ p 9 tt), ltb-false maxCells n (p 6 tt), p 8 tt)
 
 -- a bad query number is always refused
 pub bad-refused : (room : ℕ) (c : Float) (n : ℕ) → refuseFloor room c n true ≡ 0 → ⊥

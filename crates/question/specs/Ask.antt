@@ -1,7 +1,7 @@
 -- For floors, at no border: a question put to a floor, its refusals and its answer. Definitions only.
 use Prim.Native.Nat.{ℕ, suc}
 use mathlib.Core.Path.{_≡_}
-use mathlib.Core.Bool.{Bool, false}
+use mathlib.Core.Bool.{Bool}
 use mathlib.Core.List.{List, [], _∷_}
 use lib.Dec.{ltb}
 use lib.ListN.{length}
@@ -20,18 +20,7 @@ use Rattle.question.specs.declared.search.Question.{Question}
 -- the model's refusals of a question, for a floor of which no layer is asked: the lent places, the cell size, how many cells there are, whether a query number is bad
 unfoldable pub refuseFloor : ℕ → Float → ℕ → Bool → ℕ
 refuseFloor room c n bad =
-    verdict
-    (record {
-      short = short ((room, maxCells) ∷ []);
-      size = badSize c;
-      radius = false;
-      long = false;
-      disorder = false;
-      outside = false;
-      cells = ltb maxCells n;
-      points = false;
-      query = bad;
-    })
+    verdict ((9, short ((room, maxCells) ∷ [])) ∷ (1, badSize c) ∷ (6, ltb maxCells n) ∷ (8, bad) ∷ [])
 
 abbrev pub refuseAsk : ℕ → Float → ℕ → model.Question → ℕ
 refuseAsk room c n q = refuseFloor room c n (badQuestion q)

@@ -4,6 +4,8 @@ use crate::search::Found;
 use crate::search::Question;
 use crate::search::search;
 use limits::cell::Cell;
+use limits::due::due;
+use limits::due::first_due;
 use limits::floor::Floor;
 use limits::judge::bad_size;
 use sizes::CELLS;
@@ -42,23 +44,12 @@ pub fn place_of(f: Found) -> Place
     Place::Nothing
 }
 
-// Which refusal is due: 9, by the lent places; 1; 6, of the floor handed in; 8, where `bad` says that a query number is.
+// The first refusal that is due: 9, by the lent places; 1; 6, of the floor handed in; 8, where `bad` says that a query number is bad.
 pub fn judge(room: usize, size: f64, cells: usize, bad: bool) -> u8
     ensures { λ r. ⌜ r ≡ refuseFloor room size cells bad ⌝ }
 {
-    if room < CELLS {
-        return 9;
-    }
-    if bad_size(size) {
-        return 1;
-    }
-    if CELLS < cells {
-        return 6;
-    }
-    if bad {
-        return 8;
-    }
-    0
+    let asked = due(due(0, 8, bad), 6, CELLS < cells);
+    first_due(due(due(asked, 1, bad_size(size)), 9, room < CELLS))
 }
 
 // The first occupied cell of the floor, by x, then y, that qualifies.

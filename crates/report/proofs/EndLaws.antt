@@ -2,7 +2,6 @@
 use Prim.Native.Nat.{ℕ, zero, suc, _≤_, _<_}
 use native.Mathlib.Omega.{arith}
 use mathlib.Core.Path.{_≡_, refl, _∙_}
-use mathlib.Core.Bool.{false}
 use mathlib.Core.List.{List, [], _∷_, _++_}
 use lib.Dec.{leb}
 use lib.ListN.{drop, length}
@@ -50,7 +49,7 @@ module _ (b o : List ℕ) where
     list-refused n f k e x = let p = put-front (x .done (le-leb lineRoom (length o) (omega arith)) .0) in list-done (record { refusal = 0; count = k }) (refused n f) e refl (p .0) (p .1)
 
     pub list-read : (m : Map) (t : Tables) (lent : List (ℕ × ℕ)) (Hold : model.Map → Type 0) (r : Count) → ((M : model.Map) × (readFile b ≡ done M) × Holds m t M) → Enough lent
-        → ((M : model.Map) → Holds m t M → Hold M) → Listing (refuseMap (short lent) m false false) Hold (record { was = o; is = o′; wanted = λ M. listed (done M) } ∷ []) r
+        → ((M : model.Map) → Holds m t M → Hold M) → Listing (refuseMap (short lent) m []) Hold (record { was = o; is = o′; wanted = λ M. listed (done M) } ∷ []) r
         → Listed b o o′ r
     list-read m t lent Hold r q k h l =
         let g = read-accepted b (q .0) (q .1) in

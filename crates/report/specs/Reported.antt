@@ -21,7 +21,7 @@ use Rattle.print.specs.declared.counts.Counts.{Counts}
 -- ---- the listing of the map that the lent tables hold, in the buffer `out`
 module _ (m : Map) (cells points statuses blockers pairs out : List ℕ) where
   abbrev pub mapDue : ℕ
-  mapDue = refuseMap (short (tableNeeds (length cells) (length points) (length statuses) (length blockers) (length pairs) ((length out, needListing) ∷ []))) m false false
+  mapDue = refuseMap (short (tableNeeds (length cells) (length points) (length statuses) (length blockers) (length pairs) ((length out, needListing) ∷ []))) m []
 
   abbrev pub MapHeld : model.Map → Type 0
   MapHeld = HoldsSome m (λ t. (t .cells ≡ cells) × (t .points ≡ points) × (t .statuses ≡ statuses) × (t .blockers ≡ blockers) × (t .pairs ≡ pairs))
@@ -34,7 +34,7 @@ module _ (m : Map) (cells points statuses blockers pairs out : List ℕ) where
 
 -- ---- the counts: r is what f says of the map that the lent tables hold (P), where that map is not refused
 abbrev pub Tells : {A : Type 0} → Map → (Tables → Type 0) → (model.Map → A) → A → Type 0
-Tells m P f r = (M : model.Map) → HoldsSome m P M → refuseMap false m false false ≡ 0 → r ≡ f M
+Tells m P f r = (M : model.Map) → HoldsSome m P M → refuseMap false m [] ≡ 0 → r ≡ f M
 
 -- those of a map with so many points and pairs
 abbrev pub countsOf : ℕ → ℕ → model.Map → Counts

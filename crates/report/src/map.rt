@@ -35,7 +35,7 @@ pub fn list_map(
         pairs.len(),
         lacks(out.len(), LISTING, false),
     );
-    let number = refuse(short, map, false, false);
+    let number = refuse(short, map, 0);
     if number != 0 {
         return refused(number);
     }

@@ -12,7 +12,7 @@ use Rattle.answers.specs.Asking.{Front}
 use Rattle.ieee.specs.Whole.{biased}
 use Rattle.model.proofs.KeyLaws.{Asked}
 use Rattle.model.proofs.SiftLaws.{sift-end, sift-kept, sift-left}
-use Rattle.model.proofs.RunLaws.{or-parts}
+use Rattle.model.proofs.DueLaws.{or-parts}
 use Rattle.model.specs.Answers.{free}
 use Rattle.model.specs.Cell.{W, eight, key, origin}
 use Rattle.model.specs.Good.{Inside}

@@ -1,7 +1,7 @@
 -- What is seen from the cell (x, y), and the cells beside it that can be reached, as calls on a map (RULES 2.5; occupancy/mod.rs, `calculate_visibility`, `neighbors`). Definitions only.
 use Prim.Native.Nat.{ℕ, _+_}
 use mathlib.Core.Path.{_≡_}
-use mathlib.Core.Bool.{false, _||_}
+use mathlib.Core.Bool.{_||_}
 use mathlib.Core.List.{List, [], _∷_}
 use lib.IntN.{ℤ}
 use lib.ListN.{length}
@@ -17,7 +17,7 @@ use Rattle.held.specs.declared.map.Map.{Map}
 
 -- the refusal that is due, by the lent lengths with their needs: 5 where the cell is more than 64 beyond the batch coordinates
 abbrev pub refusal : Map → List (ℕ × ℕ) → ℤ → ℤ → ℕ
-refusal m lent x y = refuseMap (short lent) m (offMap (maxCoordinate + beyond) x || offMap (maxCoordinate + beyond) y) false
+refusal m lent x y = refuseMap (short lent) m ((5, offMap (maxCoordinate + beyond) x || offMap (maxCoordinate + beyond) y) ∷ [])
 
 -- the neighbours, written to out, which became out′
 abbrev pub besideLengths : List ℕ → List ℕ → List (ℕ × ℕ)

@@ -56,7 +56,7 @@ pub fn neighbours(map: Map, cells: &[u64], cell: Cell, out: &mut [u64]) -> Count
     ensures { λ r. ⌜ Beside map (now (cells .entry)) (now (out .entry)) (cell .x) (cell .y) (now (out .exit)) r ⌝ }
 {
     let short = lacks(cells.len(), CELLS, lacks(out.len(), POINTS, false));
-    let number = refuse(short, map, off_edge(cell), false);
+    let number = refuse(short, map, off_edge(cell));
     if number != 0 {
         return refused(number);
     }

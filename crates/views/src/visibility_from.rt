@@ -113,7 +113,7 @@ pub fn visibility_from(
         pairs.len(),
         lacks(out.len(), POINTS, false),
     );
-    let number = refuse(short, map, off_edge(cell), false);
+    let number = refuse(short, map, off_edge(cell));
     if number != 0 {
         return refused(number);
     }

@@ -9,16 +9,16 @@ use mathlib.Core.List.{List, [], _∷_, _++_}
 use lib.Dec.{ltb}
 use lib.IntN.{ℤ}
 use lib.ListN.{length, take}
-use borrow.Author.Tests.{lt-ltb, le-ltb, ltb-false}
+use borrow.Author.Tests.{lt-ltb, le-ltb, ltb-false, ltb-true}
 use Rattle.limits.proofs.FloorLaws.{holds-cells}
 use Rattle.limits.specs.Floor as floor
 use Rattle.limits.specs.Batches.{entries, ragged}
-use Rattle.model.proofs.RunLaws.{passed, or-parts}
+use Rattle.model.proofs.DueLaws.{passed, or-parts}
 use Rattle.model.specs.Batch.{cellsAfter}
 use Rattle.model.specs.Limits.{maxBatch, maxCells, maxPoints}
 use Rattle.model.specs.Map as model
 use Rattle.model.specs.Maps.{AscL}
-use Rattle.model.specs.Refusal.{badRadius, judge, outside, short, unsorted}
+use Rattle.model.specs.Refusal.{badRadius, firstDue, isDue, judge, outside, short, unsorted, verdict}
 use Rattle.visibility.specs.Change.{Changing, Lent, lentNeeds, refuseBatch, refusedWith}
 use Rattle.held.specs.Holds.{Holds}
 use Rattle.visibility.specs.Update.{Updated, Updating, pointsAfter}
@@ -58,17 +58,17 @@ pub record Passed (s : Bool) (m : Map) (l : List ℤ) : Type 0 where
   pub later : (w p : Bool) → refuseBatch s m l w p ≡ cond w 6 (cond p 7 0)
 
 pub batch-passed : (s : Bool) (m : Map) (l : List ℤ) → refuseBatch s m l (ltb maxCells (m .cells)) false ≡ 0 → Passed s m l
-unfolding refuseBatch
+unfolding refuseBatch isDue
 batch-passed s m l e =
     let q = passed _ e in
     record {
-      long = q .short;
-      radius = q .radius;
-      few = ltb-false maxBatch (length (entries l)) (q .long);
-      order = or-parts (ragged l) (unsorted (entries l)) (q .disorder) .1;
-      bounds = q .outside;
-      small = ltb-false maxCells (m .cells) (q .cells);
-      later = λ w p. in-turn s m l w p ∙ rw (q .short, q .size, q .radius, q .long, q .disorder, q .outside) refl;
+      long = q 9 tt;
+      radius = q 2 tt;
+      few = ltb-false maxBatch (length (entries l)) (q 3 tt);
+      order = or-parts (ragged l) (unsorted (entries l)) (q 4 tt) .1;
+      bounds = q 5 tt;
+      small = ltb-false maxCells (m .cells) (q 6 tt);
+      later = λ w p. in-turn s m l w p ∙ rw (q 9 tt, q 1 tt, q 2 tt, q 3 tt, q 4 tt, q 5 tt) refl;
     }
 
 -- ---- the model's judgement, where the tables hold its map
@@ -77,6 +77,15 @@ module _ (m : Map) (t : Lent) (M : model.Map) (b : List ℤ) (w : ragged b ≡ f
       ≡ refuseBatch (short (lentNeeds t)) m b (ltb maxCells (length (cellsAfter (model.toBatch (entries b)) (M .cells)))) (ltb maxPoints (pointsAfter M (entries b)))
   unfolding judge refuseBatch
   judged = rw (w, h .size, h .radius, le-ltb maxCells (length (M .cells)) (h .cells .room), le-ltb maxPoints (length (M .layer .points)) (h .layer .room), next-cells M (entries b)) refl
+
+-- 6 and 7, once nothing before them is due
+room-turn : {a b x y : Bool} → a ≡ x → b ≡ y → verdict ((6, a) ∷ (7, b) ∷ []) ≡ cond x 6 (cond y 7 0)
+unfolding verdict firstDue isDue
+room-turn u v = rw (u, v) refl
+
+pub room-passed : (k p n : ℕ) → n ≡ verdict ((6, ltb maxCells k) ∷ (7, ltb maxPoints p) ∷ []) → n ≡ 0 → (k ≤ maxCells) × (p ≤ maxPoints)
+unfolding isDue
+room-passed k p n q z = let w = passed _ (sym q ∙ z) in (ltb-false maxCells k (w 6 tt), ltb-false maxPoints p (w 7 tt))
 
 -- ---- the call
 module _ (m : Map) (b : List ℤ) (t t′ : Lent) (r : Changed) where
@@ -135,7 +144,7 @@ module _ (m : Map) (b : List ℤ) (t t′ : Lent) (r : Changed) where
       not-early : (n : ℕ) → early ≡ suc n → ⊥
       not-early n z = suc-ne-zero _ (sym z ∙ sym e)
 
-      pub crowded-refused : maxCells < k → r ≡ refusedWith 6 → t′ ≡ t → Changing m b t t′ r
+      crowded-refused : maxCells < k → r ≡ refusedWith 6 → t′ ≡ t → Changing m b t t′ r
       crowded-refused g f w =
           refuses 6 (suc-ne-zero _) f w (λ n z. absurd (not-early n z)) (λ u z. inl refl)
           (λ C h p u. sym (past .later (ltb maxCells (length (after C))) p ∙ ap (λ (v : Bool). cond v 6 (cond p 7 0)) (lt-ltb maxCells (length (after C)) (subst (λ (n : ℕ). maxCells < n) (counted C h) g))))
@@ -148,11 +157,11 @@ module _ (m : Map) (b : List ℤ) (t t′ : Lent) (r : Changed) where
         points-decide : (C : List ℕ) → HoldsCells C → (p : Bool) → refuseBatch s m b (ltb maxCells (length (after C))) p ≡ cond p 7 0
         points-decide C h p = past .later (ltb maxCells (length (after C))) p ∙ ap (λ (v : Bool). cond v 6 (cond p 7 0)) (le-ltb maxCells (length (after C)) (fits C h))
 
-        pub packed-refused : maxPoints < m .points → r ≡ refusedWith 7 → t′ ≡ t → Changing m b t t′ r
+        packed-refused : maxPoints < m .points → r ≡ refusedWith 7 → t′ ≡ t → Changing m b t t′ r
         packed-refused big f w =
             refuses 7 (suc-ne-zero _) f w (λ n z. absurd (not-early n z)) (λ u z. inr refl) (λ C h p u. sym (points-decide C h p ∙ ap (λ (v : Bool). cond v 7 0) (u big)))
 
-        pub updated : m .points ≤ maxPoints → Updated m l t t′ r → Changing m b t t′ r
+        updated : m .points ≤ maxPoints → Updated m l t t′ r → Changing m b t t′ r
         updated few u = record {
           input = λ n z. absurd (not-early n z);
           overfull = λ big z. absurd (let j : m .points ≤ maxPoints = few in omega arith);
@@ -179,3 +188,16 @@ module _ (m : Map) (b : List ℤ) (t t′ : Lent) (r : Changed) where
             enough : (M : model.Map) → Holds m (t .tables) M → (p : Bool) → ltb maxPoints (pointsAfter M l) ≡ p → r .refusal ≡ 0 → ltb maxPoints (pointsAfter M l) ≡ false
             enough M h true q z = absurd (suc-ne-zero _ (sym (answer M h true q) ∙ z))
             enough M h false q z = q
+
+      -- past the input's refusals: 6 or 7, or the batch
+      module _ (n : ℕ) (q : n ≡ verdict ((6, ltb maxCells k) ∷ (7, ltb maxPoints (m .points)) ∷ [])) where
+        pub room-refused : (n ≡ 0 → ⊥) → r ≡ refusedWith n → t′ ≡ t → Changing m b t t′ r
+        room-refused some f w = go (ltb maxCells k) (ltb maxPoints (m .points)) refl refl
+          where
+            go : (x y : Bool) → ltb maxCells k ≡ x → ltb maxPoints (m .points) ≡ y → Changing m b t t′ r
+            go true y u v = crowded-refused (ltb-true maxCells k u) (f ∙ ap refusedWith (q ∙ room-turn u v)) w
+            go false true u v = packed-refused (ltb-false maxCells k u) (ltb-true maxPoints (m .points) v) (f ∙ ap refusedWith (q ∙ room-turn u v)) w
+            go false false u v = absurd (some (q ∙ room-turn u v))
+
+        pub room-updated : n ≡ 0 → Updated m l t t′ r → Changing m b t t′ r
+        room-updated z u = let p = room-passed k (m .points) n q z in updated (p .0) (p .1) u

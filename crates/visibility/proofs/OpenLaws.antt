@@ -1,19 +1,20 @@
 -- Opening a map: its refusals in their order, and the cleared tables, which hold a fresh map. Assumes nothing.
-use Prim.Native.Nat.{ℕ, suc, _≤_, _<_, zero-le}
+use Prim.Native.Nat.{ℕ, _≤_, _<_, zero-le}
 use native.Mathlib.Nat.{suc-ne-zero}
 use native.Mathlib.Omega.{arith}
 use mathlib.Core.Path.{_≡_, refl, sym, ap, _∙_}
-use mathlib.Core.Bool.{true, false, cond}
-use mathlib.Core.List.{List, [], _++_}
+use mathlib.Core.Bool.{Bool, true, false, cond}
+use mathlib.Core.List.{List, [], _∷_, _++_}
 use lib.Ieee.{Float}
 use lib.ListN.{drop, length, replicate, take}
 use borrow.Author.Tests.{le-ltb}
 use Rattle.limits.proofs.FloorLaws.{holds-none}
+use Rattle.model.proofs.DueLaws.{passed}
 use Rattle.model.proofs.RunLaws.{Sound, open-sound}
 use Rattle.model.specs.Limits.{maxCells, maxPoints}
 use Rattle.model.specs.Map.{emptyLayer, fresh}
 use Rattle.model.specs.Maps.{keys}
-use Rattle.model.specs.Refusal.{badRadius, badSize, firstOf, opened, refuseOpen, short, verdict}
+use Rattle.model.specs.Refusal.{badRadius, badSize, firstDue, isDue, opened, refuseOpen, short, verdict}
 use Rattle.held.specs.Pairs.{Pairs, pairPlace, pairPlaces}
 use Rattle.held.specs.Holds.{Tables, needs}
 use Rattle.held.specs.Layers.{HoldsLayer, edgeAt}
@@ -25,16 +26,10 @@ use Rattle.visibility.proofs.ClearLaws.{cleared, cleared-at, cleared-be
 -- ---- the refusals in turn
 module _ (l : List (ℕ × ℕ)) (c r : Float) where
   in-turn : refuseOpen l c r ≡ cond (short l) 9 (cond (badSize c) 1 (cond (badRadius c r) 2 0))
-  unfolding refuseOpen verdict firstOf
+  unfolding refuseOpen verdict firstDue isDue
   in-turn = refl
 
-  pub open-short : short l ≡ true → 9 ≡ refuseOpen l c r
-  open-short e = sym (in-turn ∙ rw e refl)
-
   module _ (e : short l ≡ false) where
-    pub open-size : badSize c ≡ true → 1 ≡ refuseOpen l c r
-    open-size f = sym (in-turn ∙ rw (e, f) refl)
-
     module _ (f : badSize c ≡ false) where
       pub open-radius : badRadius c r ≡ true → 2 ≡ refuseOpen l c r
       open-radius g = sym (in-turn ∙ rw (e, f, g) refl)
@@ -42,9 +37,19 @@ module _ (l : List (ℕ × ℕ)) (c r : Float) where
       pub open-passes : badRadius c r ≡ false → 0 ≡ refuseOpen l c r
       open-passes g = sym (in-turn ∙ rw (e, f, g) refl)
 
+-- what is answered is the first of these
+pub open-judged : (l : List (ℕ × ℕ)) (c r : Float) (s : Bool) (n : ℕ) → n ≡ verdict ((9, s) ∷ (1, badSize c) ∷ (2, badRadius c r) ∷ []) → s ≡ short l → n ≡ refuseOpen l c r
+unfolding refuseOpen
+open-judged l c r s n e f = e ∙ rw f refl
+
+-- and what is answered with 0 has passed
+pub open-passed : (l : List (ℕ × ℕ)) (c r : Float) → refuseOpen l c r ≡ 0 → (short l ≡ false) × (badSize c ≡ false) × (badRadius c r ≡ false)
+unfolding refuseOpen isDue
+open-passed l c r e = let p = passed _ e in (p 9 tt, p 1 tt, p 2 tt)
+
 -- a refused opening leaves the tables as they were
-pub open-refused : (c r : Float) (t : Tables) (n : ℕ) (o : Outcome) → o ≡ refusedWith (suc n) → suc n ≡ refuseOpen (needs t) c r → Opening c r t t o
-open-refused c r t n o e h =
+pub open-refused : (c r : Float) (t : Tables) (n : ℕ) (o : Outcome) → (n ≡ 0 → ⊥) → o ≡ refusedWith n → n ≡ refuseOpen (needs t) c r → Opening c r t t o
+open-refused c r t n o some e h =
     record {
       refusal = number ∙ h;
       refused = λ k z. (refl, e ∙ ap refusedWith (sym number ∙ z));
@@ -53,11 +58,11 @@ open-refused c r t n o e h =
       behind = λ z. absurd (never z);
     }
   where
-    number : o .refusal ≡ suc n
+    number : o .refusal ≡ n
     number = ap (λ (w : Outcome). w .refusal) e
 
     never : o .refusal ≡ 0 → ⊥
-    never z = suc-ne-zero _ (sym number ∙ z)
+    never z = some (sym number ∙ z)
 
 -- ---- the pairs of an empty layer
 cleared-pairs : (r : Float) (t : List ℕ) → Pairs (edgeAt (emptyLayer r)) (cleared pairPlaces t)

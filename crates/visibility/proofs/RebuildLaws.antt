@@ -20,10 +20,10 @@ use Rattle.model.specs.Layer.{Layer, Tests, marks, update}
 use Rattle.model.specs.Limits.{maxCells, maxPoints, needCorners}
 use Rattle.model.specs.Map as model
 use Rattle.model.specs.Maps.{get, isSome, keys}
-use Rattle.model.specs.Refusal.{badRadius, badSize, firstOf, judge, packed, short, verdict}
+use Rattle.model.specs.Refusal.{badRadius, badSize, firstDue, isDue, judge, packed, short, verdict}
 use Rattle.model.proofs.ClosedForm.{rebuild-closed}
 use Rattle.model.proofs.LayerLaws.{empty-inv}
-use Rattle.model.proofs.RunLaws.{passed}
+use Rattle.model.proofs.DueLaws.{passed}
 use Rattle.model.proofs.TestLaws.{lawful, tests-shift}
 use Rattle.sight.specs.Blocked.{Stood}
 use Rattle.table.specs.Listed.{Listed}
@@ -47,34 +47,6 @@ use Rattle.held.proofs.RoomLaws.{Enough, long-enough}
 use Rattle.visibility.proofs.RefuseLaws.{inTurn, radius-turn, turn-none, turn-some}
 use Rattle.visibility.proofs.StoodLaws.{fitting, marking, stood-keys, stood-length}
 
--- ---- the refusals in turn
-module _ (s : Bool) (m : Map) (r : Float) where
-  pub radius-short : s ≡ true → 9 ≡ refuseRadius s m r
-  radius-short e = sym (radius-turn s m r ∙ rw e refl)
-
-  module _ (e : s ≡ false) where
-    pub radius-size : badSize (m .size) ≡ true → 1 ≡ refuseRadius s m r
-    radius-size f = sym (radius-turn s m r ∙ rw (e, f) refl)
-
-    module _ (f : badSize (m .size) ≡ false) where
-      pub radius-old : badRadius (m .size) (m .radius) ≡ true → 2 ≡ refuseRadius s m r
-      radius-old g = sym (radius-turn s m r ∙ rw (e, f, g) refl)
-
-      module _ (g : badRadius (m .size) (m .radius) ≡ false) where
-        pub radius-new : badRadius (m .size) r ≡ true → 2 ≡ refuseRadius s m r
-        radius-new h = sym (radius-turn s m r ∙ rw (e, f, g, h) refl)
-
-        module _ (h : badRadius (m .size) r ≡ false) where
-          pub radius-crowded : maxCells < m .cells → 6 ≡ refuseRadius s m r
-          radius-crowded k = sym (radius-turn s m r ∙ rw (e, f, g, h, lt-ltb maxCells (m .cells) k) refl)
-
-          module _ (k : m .cells ≤ maxCells) where
-            pub radius-packed : maxPoints < m .points → 7 ≡ refuseRadius s m r
-            radius-packed w = sym (radius-turn s m r ∙ rw (e, f, g, h, le-ltb maxCells (m .cells) k, lt-ltb maxPoints (m .points) w) refl)
-
-            pub radius-passes : m .points ≤ maxPoints → 0 ≡ refuseRadius s m r
-            radius-passes w = sym (radius-turn s m r ∙ rw (e, f, g, h, le-ltb maxCells (m .cells) k, le-ltb maxPoints (m .points) w) refl)
-
 -- ---- what the input alone decides, and what the model says of a map that is held
 module _ (m : Map) (r : Float) (t : Tables) where
   abbrev before : List (ℕ × Bool)
@@ -85,7 +57,7 @@ module _ (m : Map) (r : Float) (t : Tables) where
     M′ = model.next (model.radius r) M
 
     judged : judge (needs t) (model.radius r) M M′ ≡ inTurn before (cond (packed M′) 7 0)
-    unfolding judge verdict firstOf
+    unfolding judge verdict firstDue isDue
     judged = rw (h .size, h .radius, le-ltb maxCells (length (M .cells)) (h .cells .room), le-ltb maxPoints (length (M .layer .points)) (h .layer .room)) refl
 
     by-input : refuseRadius (short (needs t)) m r ≡ inTurn before 0
@@ -99,7 +71,7 @@ module _ (m : Map) (r : Float) (t : Tables) where
     judged-input n e f = e ∙ by-input ∙ turn-some before (cond (packed M′) 7 0) (λ z. f (e ∙ by-input ∙ z)) ∙ sym judged
 
     judged-points : refuseRadius (short (needs t)) m r ≡ 0 → (b : Bool) → packed M′ ≡ b → cond b 7 0 ≡ judge (needs t) (model.radius r) M M′
-    judged-points e b p = ap (λ (x : Bool). cond x 7 0) (sym p) ∙ turn-none before (cond (packed M′) 7 0) (suc-ne-zero _, (suc-ne-zero _, (suc-ne-zero _, tt))) (sym by-input ∙ e) ∙ sym judged
+    judged-points e b p = ap (λ (x : Bool). cond x 7 0) (sym p) ∙ turn-none before (cond (packed M′) 7 0) refl (sym by-input ∙ e) ∙ sym judged
 
   -- a refused call leaves the tables as they were
   rebuild-refused : (n : ℕ) (o : Outcome) → (n ≡ 0 → ⊥) → o ≡ refusedWith n → ((k : ℕ) → refuseRadius (short (needs t)) m r ≡ suc k → n ≡ suc k)
@@ -131,20 +103,20 @@ module _ (m : Map) (r : Float) (t : Tables) (pass : refuseRadius (short (needs t
   T = model.tests (m .size) r
 
   new-radius : badRadius (m .size) r ≡ false
-  unfolding refuseRadius
-  new-radius = or-right (badRadius (m .size) (m .radius)) (badRadius (m .size) r) (passed _ pass .radius)
+  unfolding refuseRadius isDue
+  new-radius = or-right (badRadius (m .size) (m .radius)) (badRadius (m .size) r) (passed _ pass 2 tt)
 
   pub rebuild-room : Enough (needs t)
-  unfolding refuseRadius
-  rebuild-room = long-enough (needs t) (passed _ pass .short)
+  unfolding refuseRadius isDue
+  rebuild-room = long-enough (needs t) (passed _ pass 9 tt)
 
   pub rebuild-cells : m .cells ≤ maxCells
-  unfolding refuseRadius
-  rebuild-cells = ltb-false maxCells (m .cells) (passed _ pass .cells)
+  unfolding refuseRadius isDue
+  rebuild-cells = ltb-false maxCells (m .cells) (passed _ pass 6 tt)
 
   pub rebuild-points : m .points ≤ maxPoints
-  unfolding refuseRadius
-  rebuild-points = ltb-false maxPoints (m .points) (passed _ pass .points)
+  unfolding refuseRadius isDue
+  rebuild-points = ltb-false maxPoints (m .points) (passed _ pass 7 tt)
 
   module _ {M : model.Map} (h : Holds m t M) where
     abbrev C : List ℕ

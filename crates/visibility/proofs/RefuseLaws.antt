@@ -1,17 +1,19 @@
 -- A map's refusals in their order. Assumes nothing.
 use Prim.Native.Nat.{ℕ, suc, _≤_, _<_}
-use native.Mathlib.Nat.{suc-ne-zero}
 use mathlib.Core.Path.{_≡_, refl, sym, _∙_}
 use mathlib.Core.Bool.{Bool, true, false, cond, _||_, or-false}
-use mathlib.Core.List.{List, [], _∷_}
-use lib.Dec.{ltb}
+use mathlib.Core.List.{List, [], _∷_, _++_}
+use lib.Dec.{eqb, ltb}
 use lib.IntN.{ℤ}
 use lib.ListN.{length}
 use lib.Ieee.{Float}
-use borrow.Author.Tests.{lt-ltb, le-ltb}
+use borrow.Author.Tests.{eqb-false, lt-ltb, le-ltb}
+use Rattle.limits.proofs.WordLaws.{judged}
 use Rattle.limits.specs.Batches as grid
+use Rattle.limits.specs.Words.{firstOn, looked, unlessLong, wordOn}
+use Rattle.model.proofs.DueLaws.{among, or-parts, refused}
 use Rattle.model.specs.Limits.{maxBatch, maxCells, maxPoints}
-use Rattle.model.specs.Refusal.{badRadius, badSize, firstOf, outside, short, verdict}
+use Rattle.model.specs.Refusal.{badRadius, badSize, firstDue, isDue, order, outside, short, verdict}
 use Rattle.visibility.specs.Change.{refuseBatch}
 use Rattle.visibility.specs.Radius.{refuseRadius}
 use Rattle.held.specs.declared.map.Map.{Map}
@@ -44,16 +46,19 @@ turn-some (b ∷ l) n f = go (b .1) f (turn-some l n)
     go false f ih = ih f
 
 -- where none is, n is all
-abbrev pub Somes : List (ℕ × Bool) → Type 0
-Somes [] = Unit {0}
-Somes (b ∷ l) = (b .0 ≡ 0 → ⊥) × Somes l
+abbrev pub named : List (ℕ × Bool) → List ℕ
+named [] = []
+named (b ∷ l) = b .0 ∷ named l
 
-pub turn-none : (l : List (ℕ × Bool)) (n : ℕ) → Somes l → inTurn l 0 ≡ 0 → n ≡ inTurn l n
+pub turn-none : (l : List (ℕ × Bool)) (n : ℕ) → among 0 (named l) ≡ false → inTurn l 0 ≡ 0 → n ≡ inTurn l n
 turn-none [] n a e = refl
-turn-none (b ∷ l) n a e = go (b .1) e (turn-none l n (a .1))
+turn-none (b ∷ l) n a e = go (b .1) e (turn-none l n (p .1))
   where
+    p : (eqb 0 (b .0) ≡ false) × (among 0 (named l) ≡ false)
+    p = or-parts (eqb 0 (b .0)) (among 0 (named l)) a
+
     go : (s : Bool) → cond s (b .0) (inTurn l 0) ≡ 0 → (inTurn l 0 ≡ 0 → n ≡ inTurn l n) → n ≡ cond s (b .0) (inTurn l n)
-    go true e ih = absurd (a .0 e)
+    go true e ih = absurd (eqb-false 0 (b .0) (p .0) (sym e))
     go false e ih = ih e
 
 -- ---- a batch
@@ -65,66 +70,58 @@ ofInput s m l = (9, s) ∷ (1, badSize (m .size)) ∷ (2, badRadius (m .size) (m
 
 module _ (s : Bool) (m : Map) (l : List ℤ) (w p : Bool) where
   pub in-turn : refuseBatch s m l w p ≡ inTurn (ofInput s m l) (cond w 6 (cond p 7 0))
-  unfolding refuseBatch verdict firstOf
+  unfolding refuseBatch verdict firstDue isDue
   in-turn = refl
 
-  batch-turn : grid.refuseBatch l ≡ inTurn (ofEntries l) 0
-  unfolding grid.refuseBatch firstOf
-  batch-turn = refl
+-- as a word: where the batch is too long, its entries are not looked at
+looked-judged : (s z q x y v w : Bool) → verdict ((9, s) ∷ (1, z) ∷ (2, q) ∷ (unlessLong x y v ++ ((6, w) ∷ []))) ≡ verdict ((9, s) ∷ (1, z) ∷ (2, q) ∷ (3, x) ∷ (4, y) ∷ (5, v) ∷ (6, w) ∷ (7, false) ∷ [])
+unfolding verdict firstDue isDue
+looked-judged s z q true y v w = refl
+looked-judged s z q false y v w = refl
 
-  pub batch-short : s ≡ true → 9 ≡ refuseBatch s m l w p
-  batch-short e = sym (in-turn ∙ rw e refl)
-
-  module _ (e : s ≡ false) where
-    pub batch-size : badSize (m .size) ≡ true → 1 ≡ refuseBatch s m l w p
-    batch-size f = sym (in-turn ∙ rw (e, f) refl)
-
-    module _ (f : badSize (m .size) ≡ false) where
-      pub batch-radius : badRadius (m .size) (m .radius) ≡ true → 2 ≡ refuseBatch s m l w p
-      batch-radius g = sym (in-turn ∙ rw (e, f, g) refl)
-
-      module _ (g : badRadius (m .size) (m .radius) ≡ false) where
-        known : refuseBatch s m l w p ≡ inTurn (ofEntries l) (cond w 6 (cond p 7 0))
-        known = in-turn ∙ rw (e, f, g) refl
-
-        pub batch-entries : (n : ℕ) → n ≡ grid.refuseBatch l → (n ≡ 0 → ⊥) → n ≡ refuseBatch s m l w p
-        batch-entries n h some = h ∙ batch-turn ∙ turn-some (ofEntries l) (cond w 6 (cond p 7 0)) (λ z. some (h ∙ batch-turn ∙ z)) ∙ sym known
-
-        -- 6 where there are too many cells, 7 where there are too many points, else 0
-        pub batch-last : (n : ℕ) → n ≡ grid.refuseBatch l → n ≡ 0 → cond w 6 (cond p 7 0) ≡ refuseBatch s m l w p
-        batch-last n h z = turn-none (ofEntries l) (cond w 6 (cond p 7 0)) (suc-ne-zero _, (suc-ne-zero _, (suc-ne-zero _, tt))) (sym batch-turn ∙ sym h ∙ z) ∙ sym known
+pub batch-judged : (s : Bool) (m : Map) (l : List ℤ) (w : Bool) {k r : ℕ} → r ≡ firstOn order k
+    → k ≡ wordOn 0 ((9, s) ∷ (1, badSize (m .size)) ∷ (2, badRadius (m .size) (m .radius)) ∷ (looked l ++ ((6, w) ∷ []))) → r ≡ refuseBatch s m l w false
+unfolding refuseBatch
+batch-judged s m l w e f = judged _ e f ∙ looked-judged s (badSize (m .size)) (badRadius (m .size) (m .radius)) (ltb maxBatch (length (grid.entries l))) (grid.disorder l) (outside (grid.entries l)) w
 
 -- a batch that is short of room, or cannot be read, is refused whatever else there is
-some : (a b c d : Bool) → (n : ℕ) × (_≡_ {A = ℕ} (cond a 9 (cond b 1 (cond c 2 (cond d 3 4)))) (suc n))
-some true b c d = (8, refl)
-some false true c d = (0, refl)
-some false false true d = (1, refl)
-some false false false true = (2, refl)
-some false false false false = (3, refl)
-
 module _ (s : Bool) (m : Map) (l : List ℤ) (w p : Bool) where
+  batch-short : s ≡ true → (n : ℕ) × (refuseBatch s m l w p ≡ suc n)
+  unfolding refuseBatch isDue
+  batch-short e = refused _ 9 tt e
+
   pub batch-ragged : grid.ragged l ≡ true → (n : ℕ) × (refuseBatch s m l w p ≡ suc n)
-  batch-ragged e =
-      let k = some s (badSize (m .size)) (badRadius (m .size) (m .radius)) (ltb maxBatch (length (grid.entries l))) in
-      (k .0, in-turn s m l w p ∙ rw e (k .1))
+  unfolding refuseBatch isDue
+  batch-ragged e = refused _ 4 tt (rw e refl)
 
   pub batch-unread : s || grid.ragged l ≡ true → (n : ℕ) × (refuseBatch s m l w p ≡ suc n)
   batch-unread e = go s refl e
     where
       go : (z : Bool) → s ≡ z → z || grid.ragged l ≡ true → (n : ℕ) × (refuseBatch s m l w p ≡ suc n)
-      go true i h = (8, sym (batch-short s m l w p i))
+      go true i h = batch-short i
       go false i h = batch-ragged h
 
   -- and so is one on a map of a bad cell size
   pub batch-unsized : badSize (m .size) ≡ true → (n : ℕ) × (refuseBatch s m l w p ≡ suc n)
-  batch-unsized e = go s refl
-    where
-      go : (z : Bool) → s ≡ z → (n : ℕ) × (refuseBatch s m l w p ≡ suc n)
-      go true i = (8, sym (batch-short s m l w p i))
-      go false i = (0, sym (batch-size s m l w p i e))
+  unfolding refuseBatch isDue
+  batch-unsized e = refused _ 1 tt e
 
 -- ---- a radius
 module _ (s : Bool) (m : Map) (r : Float) where
   pub radius-turn : refuseRadius s m r ≡ cond s 9 (cond (badSize (m .size)) 1 (cond (badRadius (m .size) (m .radius) || badRadius (m .size) r) 2 (cond (ltb maxCells (m .cells)) 6 (cond (ltb maxPoints (m .points)) 7 0))))
-  unfolding refuseRadius verdict firstOf
+  unfolding refuseRadius verdict firstDue isDue
   radius-turn = refl
+
+  pub radius-judged : {k n : ℕ} → n ≡ firstOn order k
+      → k ≡ wordOn 0 ((9, s) ∷ (1, badSize (m .size)) ∷ (2, badRadius (m .size) (m .radius) || badRadius (m .size) r) ∷ (6, ltb maxCells (m .cells)) ∷ (7, ltb maxPoints (m .points)) ∷ []) → n ≡ refuseRadius s m r
+  unfolding refuseRadius
+  radius-judged = judged _
+
+  -- a call that is short of room, or on a map of a bad cell size, is refused whatever else there is
+  pub radius-short : s ≡ true → (n : ℕ) × (refuseRadius s m r ≡ suc n)
+  unfolding refuseRadius isDue
+  radius-short e = refused _ 9 tt e
+
+  pub radius-size : badSize (m .size) ≡ true → (n : ℕ) × (refuseRadius s m r ≡ suc n)
+  unfolding refuseRadius isDue
+  radius-size e = refused _ 1 tt e

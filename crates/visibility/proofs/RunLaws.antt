@@ -7,8 +7,8 @@ use lib.Dec.{ltb}
 use lib.Ieee.{Float, eq, le, lt}
 use Rattle.model.specs.Map as model
 use Rattle.limits.specs.Batches.{entries, ragged}
-use Rattle.model.specs.Refusal.{badSize, judge, nothing, opened, refuseOpen, run, short, step, unless}
-use Rattle.model.proofs.RunLaws.{passed, or-parts}
+use Rattle.model.specs.Refusal.{badSize, isDue, judge, nothing, opened, refuseOpen, run, short, step, unless}
+use Rattle.model.proofs.DueLaws.{passed, or-parts}
 use Rattle.model.specs.Limits.{maxCells}
 use Rattle.visibility.specs.Change.{Lent, lentNeeds, refuseInput}
 use Rattle.held.specs.Holds.{Holds, Tables, needs, noMap}
@@ -21,8 +21,7 @@ use Rattle.held.specs.declared.map.Outcome.{Outcome}
 use Rattle.visibility.proofs.OpenLaws.{open-passes}
 use Rattle.held.proofs.RoomLaws.{Enough, long-enough}
 use Rattle.visibility.proofs.PartLaws.{holds-part, holds-whole}
-use Rattle.visibility.proofs.RebuildLaws.{radius-short, radius-size}
-use Rattle.visibility.proofs.RefuseLaws.{batch-unread, batch-unsized}
+use Rattle.visibility.proofs.RefuseLaws.{batch-unread, batch-unsized, radius-short, radius-size}
 
 -- where the lent tables are long enough, their lengths decide nothing
 enough : (lent : List (ℕ × ℕ)) → short lent ≡ false → (o : model.Op) (M M′ : model.Map) → judge lent o M M′ ≡ judge [] o M M′
@@ -80,11 +79,11 @@ module _ {s s′ : State} (b : Resized s s′) where
   abbrev radiusSame : (k : ℕ) → b .answer .refusal ≡ suc k → b .left ≡ b .lent
   radiusSame k z = b .call .refused k z .0
 
-  radius-input : (n : ℕ) → suc n ≡ refuseRadius (short (needs (b .lent))) (s .map) (b .radius) → s′ ≡ s
-  radius-input n e = stays (b .lent) (b .left) (b .kept) (b .answer .refusal) (b .answer .map) (b .own) (b .then) radiusSame n (ap (λ (o : Outcome). o .refusal) (b .call .input n (sym e)))
+  radius-input : (n : ℕ) × (refuseRadius (short (needs (b .lent))) (s .map) (b .radius) ≡ suc n) → s′ ≡ s
+  radius-input k = stays (b .lent) (b .left) (b .kept) (b .answer .refusal) (b .answer .map) (b .own) (b .then) radiusSame (k .0) (ap (λ (o : Outcome). o .refusal) (b .call .input (k .0) (k .1)))
 
   pub radius-unheard : short (needs (b .lent)) ≡ true → s′ ≡ s
-  radius-unheard e = radius-input 8 (radius-short (short (needs (b .lent))) (s .map) (b .radius) e)
+  radius-unheard e = radius-input (radius-short (short (needs (b .lent))) (s .map) (b .radius) e)
 
   radius-heard : (M : model.Map) → Holds (s .map) (s .tables) M → short (needs (b .lent)) ≡ false → Holds (s′ .map) (s′ .tables) (step (model.radius (b .radius)) M)
   radius-heard M h f =
@@ -110,10 +109,10 @@ run-holds {s} {s′} (radius {m = m} b k) M h =
 
 -- an accepted opening gives the model's fresh map
 fresh-opened : (l : List (ℕ × ℕ)) (c r : Float) → refuseOpen l c r ≡ 0 → opened c r ≡ model.fresh c r
-unfolding opened refuseOpen
+unfolding opened refuseOpen isDue
 fresh-opened l c r z =
     let p = passed _ z in
-    ap (λ (n : ℕ). unless n (model.fresh c r) nothing) (sym (open-passes [] c r (unfold short in refl) (p .size) (p .radius)))
+    ap (λ (n : ℕ). unless n (model.fresh c r) nothing) (sym (open-passes [] c r (unfold short in refl) (p 1 tt) (p 2 tt)))
 
 -- The theorem: after an accepted opening and any run of calls, whatever each lends and refused ones among them, the caller's struct and tables hold the model's map of what it heard;
 -- so all that `demand3` says of it holds of the lent bytes.
@@ -126,10 +125,9 @@ no-size : (m : Map) → m ≡ noMap → badSize (m .size) ≡ true
 unfolding badSize le lt eq
 no-size m e = rw e refl
 
--- a call on the map that is all zero is refused, with 9 or 1, and alters nothing
-radius-zero : {s s′ : State} (b : Resized s s′) → badSize (s .map .size) ≡ true → (z : Bool) → short (needs (b .lent)) ≡ z → s′ ≡ s
-radius-zero b e true f = radius-unheard b f
-radius-zero {s} b e false f = radius-input b 0 (radius-size (short (needs (b .lent))) (s .map) (b .radius) f e)
+-- a call on the map that is all zero is refused, and alters nothing
+radius-zero : {s s′ : State} (b : Resized s s′) → badSize (s .map .size) ≡ true → s′ ≡ s
+radius-zero {s} b e = radius-input b (radius-size (short (needs (b .lent))) (s .map) (b .radius) e)
 
 all-stay : {s s′ : State} → Calls s s′ → s .map ≡ noMap → s′ ≡ s
 all-stay none e = refl
@@ -137,7 +135,7 @@ all-stay {s} (batch b k) e =
     let f = batch-input b (batch-unsized (short (lentNeeds (b .lent))) (s .map) (b .numbers) (ltb maxCells (s .map .cells)) false (no-size (s .map) e)) in
     all-stay k (ap (λ (z : State). z .map) f ∙ e) ∙ f
 all-stay {s} (radius b k) e =
-    let f = radius-zero b (no-size (s .map) e) (short (needs (b .lent))) refl in
+    let f = radius-zero b (no-size (s .map) e) in
     all-stay k (ap (λ (z : State). z .map) f ∙ e) ∙ f
 
 -- After a refused opening no run of calls alters anything, whatever each lends.

@@ -38,17 +38,15 @@ lentNeeds t = needs (t .tables) ++ ((length (t .confirmed), needConfirmed) ∷ (
 unfoldable pub refuseBatch : Bool → Map → List ℤ → Bool → Bool → ℕ
 refuseBatch lent m b crowded packed =
     verdict
-    (record {
-      short = lent;
-      size = badSize (m .size);
-      radius = badRadius (m .size) (m .radius);
-      long = ltb maxBatch (length (entries b));
-      disorder = disorder b;
-      outside = outside (entries b);
-      cells = crowded;
-      points = packed;
-      query = false;
-    })
+    ((9, lent)
+    ∷ (1, badSize (m .size))
+    ∷ (2, badRadius (m .size) (m .radius))
+    ∷ (3, ltb maxBatch (length (entries b)))
+    ∷ (4, disorder b)
+    ∷ (5, outside (entries b))
+    ∷ (6, crowded)
+    ∷ (7, packed)
+    ∷ [])
 
 -- what the input alone decides, the number of cells handed in among it; 0 for nothing
 abbrev pub refuseInput : Map → List ℤ → Lent → ℕ

@@ -2,7 +2,8 @@
 use Prim.Native.Nat.{ℕ, suc}
 use mathlib.Core.Path.{_≡_}
 use mathlib.Core.Logic.{_⊎_}
-use mathlib.Core.Bool.{Bool, false, _||_}
+use mathlib.Core.Bool.{Bool, _||_}
+use mathlib.Core.List.{[], _∷_}
 use lib.Dec.{ltb}
 use lib.Ieee.{Float}
 use lib.ListN.{length}
@@ -18,17 +19,12 @@ use Rattle.held.specs.declared.map.Outcome.{Outcome}
 unfoldable pub refuseRadius : Bool → Map → Float → ℕ
 refuseRadius lent m r =
     verdict
-    (record {
-      short = lent;
-      size = badSize (m .size);
-      radius = badRadius (m .size) (m .radius) || badRadius (m .size) r;
-      long = false;
-      disorder = false;
-      outside = false;
-      cells = ltb maxCells (m .cells);
-      points = ltb maxPoints (m .points);
-      query = false;
-    })
+    ((9, lent)
+    ∷ (1, badSize (m .size))
+    ∷ (2, badRadius (m .size) (m .radius) || badRadius (m .size) r)
+    ∷ (6, ltb maxCells (m .cells))
+    ∷ (7, ltb maxPoints (m .points))
+    ∷ [])
 
 -- the call. Of tables that hold no map (no call gives such) no more is promised than what the struct alone decides
 pub record Rebuilding (m : Map) (r : Float) (t t′ : Tables) (o : Outcome) : Type 0 where

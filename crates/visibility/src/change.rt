@@ -6,8 +6,10 @@ use crate::refusal::no_map;
 use batches::batch::commit;
 use batches::batch::count_after;
 use held::map::Map;
+use limits::due::due;
+use limits::due::first_due;
 use limits::judge::bad_size;
-use limits::judge::refuse_batch;
+use limits::judge::batch_due;
 use limits::radius::bad_radius;
 use sizes::BATCH;
 use sizes::CELLS;
@@ -23,7 +25,7 @@ ghost use lib.Dec.{ltb};
 ghost use lib.ListN.{length};
 ghost use Rattle.limits.specs.Batches.{entries};
 ghost use Rattle.model.specs.Limits.{maxBatch, maxCells, maxPoints, needConfirmed, needCorners};
-ghost use Rattle.model.specs.Refusal.{short};
+ghost use Rattle.model.specs.Refusal.{short, verdict};
 ghost use Rattle.visibility.specs.Change.{Changing, lentOf, refuseBatch, refusedWith};
 ghost use Rattle.visibility.specs.Update.{Finishes, Updated};
 
@@ -59,23 +61,16 @@ fn refused(number: u8) -> Changed
 fn judge(short: bool, map: Map, batch: &[i64]) -> u8
     ensures { λ r. ⌜ r ≡ refuseBatch short map (now (batch .entry)) (ltb maxCells (map .cells)) false ⌝ }
 {
-    if short {
-        return 9;
-    }
-    if bad_size(map.size) {
-        return 1;
-    }
-    if bad_radius(map.size, map.radius) {
-        return 2;
-    }
-    let number = refuse_batch(batch);
-    if number != 0 {
-        return number;
-    }
-    if CELLS < map.cells {
-        return 6;
-    }
-    0
+    let read = batch_due(due(0, 6, CELLS < map.cells), batch);
+    let known = due(read, 2, bad_radius(map.size, map.radius));
+    first_due(due(due(known, 1, bad_size(map.size)), 9, short))
+}
+
+// Past these: 6, of the cells that there would be, and 7, of the points of the map handed in.
+fn judge_room(cells: usize, points: usize) -> u8
+    ensures { λ r. ⌜ r ≡ verdict ((6, ltb maxCells cells) ∷ (7, ltb maxPoints points) ∷ []) ⌝ }
+{
+    first_due(due(due(0, 7, POINTS < points), 6, CELLS < cells))
 }
 
 // Commits a batch: the cells, the layer over them, and the outputs.
@@ -333,11 +328,9 @@ pub fn change_cells(
         return refused(number);
     }
     let n = map.cells;
-    if CELLS < count_after(&cells[..n], batch) {
-        return refused(6);
-    }
-    if POINTS < map.points {
-        return refused(7);
+    let crowd = judge_room(count_after(&cells[..n], batch), map.points);
+    if crowd != 0 {
+        return refused(crowd);
     }
     update(
         map,

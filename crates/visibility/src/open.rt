@@ -3,6 +3,8 @@ use crate::judge::short_tables;
 use crate::refusal::refused;
 use held::map::Map;
 use held::map::Outcome;
+use limits::due::due;
+use limits::due::first_due;
 use limits::judge::bad_size;
 use limits::radius::bad_radius;
 use sizes::CELLS;
@@ -10,8 +12,18 @@ use sizes::PAIRS;
 use sizes::POINTS;
 use table::bytes::clear_bytes;
 use table::copy::clear;
+ghost use mathlib.Core.Path.{_≡_};
+ghost use mathlib.Core.List.{[], _∷_};
 ghost use Rattle.held.specs.Holds.{tablesOf};
+ghost use Rattle.model.specs.Refusal.{badRadius, badSize, verdict};
 ghost use Rattle.visibility.specs.Open.{Opening};
+
+fn judge(short: bool, size: f64, radius: f64) -> u8
+    ensures { λ r. ⌜ r ≡ verdict ((9, short) ∷ (1, badSize size) ∷ (2, badRadius size radius) ∷ []) ⌝ }
+{
+    let known = due(due(0, 2, bad_radius(size, radius)), 1, bad_size(size));
+    first_due(due(known, 9, short))
+}
 
 // Clears the tables up to their fixed need.
 pub fn open(
@@ -27,20 +39,16 @@ pub fn open(
         (tablesOf (now (cells .entry)) (now (points .entry)) (now (statuses .entry)) (now (blockers .entry)) (now (pairs .entry)))
         (tablesOf (now (cells .exit)) (now (points .exit)) (now (statuses .exit)) (now (blockers .exit)) (now (pairs .exit))) o ⌝ }
 {
-    if short_tables(
+    let short = short_tables(
         cells.len(),
         points.len(),
         statuses.len(),
         blockers.len(),
         pairs.len(),
-    ) {
-        return refused(9);
-    }
-    if bad_size(size) {
-        return refused(1);
-    }
-    if bad_radius(size, radius) {
-        return refused(2);
+    );
+    let number = judge(short, size, radius);
+    if number != 0 {
+        return refused(number);
     }
     clear(&mut cells[..CELLS]);
     clear(&mut points[..POINTS]);

@@ -5,6 +5,8 @@ use crate::refusal::refused;
 use corner::cells::corner_cells;
 use held::map::Map;
 use held::map::Outcome;
+use limits::due::due;
+use limits::due::first_due;
 use limits::judge::bad_size;
 use limits::radius::bad_radius;
 use limits::radius::reach_of;
@@ -13,32 +15,28 @@ use marks::points::mark_points;
 use sizes::CELLS;
 use sizes::POINTS;
 ghost use mathlib.Core.Path.{_≡_};
+ghost use mathlib.Core.Bool.{_||_};
 ghost use Rattle.held.specs.Holds.{tablesOf};
+ghost use Rattle.model.specs.Refusal.{badRadius};
 ghost use Rattle.visibility.specs.Radius.{Rebuilding, refuseRadius};
+
+// 2: the radius that the map has, or the one that it is to have.
+fn bad_radii(size: f64, old: f64, new: f64) -> bool
+    ensures { λ r. ⌜ r ≡ (badRadius size old || badRadius size new) ⌝ }
+{
+    if bad_radius(size, old) {
+        return true;
+    }
+    bad_radius(size, new)
+}
 
 // The refusals that the map handed in and the radius decide.
 fn judge(short: bool, map: Map, radius: f64) -> u8
     ensures { λ r. ⌜ r ≡ refuseRadius short map radius ⌝ }
 {
-    if short {
-        return 9;
-    }
-    if bad_size(map.size) {
-        return 1;
-    }
-    if bad_radius(map.size, map.radius) {
-        return 2;
-    }
-    if bad_radius(map.size, radius) {
-        return 2;
-    }
-    if CELLS < map.cells {
-        return 6;
-    }
-    if POINTS < map.points {
-        return 7;
-    }
-    0
+    let room = due(due(0, 7, POINTS < map.points), 6, CELLS < map.cells);
+    let known = due(room, 2, bad_radii(map.size, map.radius, radius));
+    first_due(due(due(known, 1, bad_size(map.size)), 9, short))
 }
 
 // Setting the same radius is a change too: blockers are worked out anew.

@@ -1,8 +1,8 @@
 -- `ask::ask_numbered`: the refusal that is due, or what the search finds. Assumes nothing.
 use borrow.Author.Needs.{needs}
 use mathlib.Core.Path.{_≡_, sym, ap, subst, _∙_}
-use mathlib.Core.Bool.{false}
-use mathlib.Core.List.{[]}
+use mathlib.Core.Bool.{Bool}
+use mathlib.Core.List.{[], _∷_}
 use Rattle.model.specs.Refusal.{badQuestion}
 use Rattle.answers.specs.CellLists.{Lent, due}
 use Rattle.answers.proofs.CellLaws.{used}
@@ -17,15 +17,16 @@ use Rattle.answers.proofs.ask.ask_numbered.Statement.{statement}
 use Rattle.answers.proofs.ask.ask_numbered.Tie as tie
 
 abbrev start : tie.After-refuse → tie.Start
-start p = p .before .before .before .before
+start p = p .before .before .before .before .before
 
 -- what was judged, of the number as it was matched
-number : (p : tie.After-refuse) (n : Numbered) → start p .args .numbered ≡ n → let a = start p .args in p .refuse .result ≡ due (a .map) (a .cells .now) [] (badNumbered n)
+number : (p : tie.After-refuse) (n : Numbered) → start p .args .numbered ≡ n → let a = start p .args in p .refuse .result ≡ due (a .map) (a .cells .now) [] ((8, badNumbered n) ∷ [])
 number p n e =
     let a = start p .args in
-    let b = p .before in
-    due-told (a .map) (a .cells .now) (b .before .lacks .result) (b .bad-numbered .result) (p .refuse .result) (b .before .lacks .ensures) (p .refuse .ensures)
-    ∙ ap (due (a .map) (a .cells .now) []) (b .bad-numbered .ensures ∙ ap badNumbered e)
+    let d = p .before in
+    let b = d .before in
+    due-told (a .map) (a .cells .now) (b .before .lacks .result) (b .bad-numbered .result) (d .due .result) (p .refuse .result) (b .before .lacks .ensures) (d .due .ensures) (p .refuse .ensures)
+    ∙ ap (λ (z : Bool). due (a .map) (a .cells .now) [] ((8, z) ∷ [])) (b .bad-numbered .ensures ∙ ap badNumbered e)
 
 -- the question that the number names
 abbrev judged : tie.After-known-told → tie.After-refuse
@@ -34,7 +35,7 @@ judged k = k .before .before .before
 abbrev known : tie.After-known-told → Question
 known k = k .before .numbered .given .0 .0
 
-number-known : (k : tie.After-known-told) → let a = start (judged k) .args in judged k .refuse .result ≡ due (a .map) (a .cells .now) [] (badQuestion (asked (known k)))
+number-known : (k : tie.After-known-told) → let a = start (judged k) .args in judged k .refuse .result ≡ due (a .map) (a .cells .now) [] ((8, badQuestion (asked (known k))) ∷ [])
 number-known k = number (judged k) (Numbered.Known (known k)) (k .before .numbered .given .1)
 
 returns : tie.Need-returns
@@ -56,7 +57,7 @@ slice-aggregate-search : tie.Need-slice-aggregate-search
 slice-aggregate-search c =
     let e = c .before in
     let a = start (judged (e .before)) .args in
-    used (a .map) (a .cells .now) [] false (badQuestion (asked (known (e .before)))) (sym (number-known (e .before)) ∙ e .if1 .left)
+    used (a .map) (a .cells .now) [] ((8, badQuestion (asked (known (e .before)))) ∷ []) (sym (number-known (e .before)) ∙ e .if1 .left)
 
 returns-3 : tie.Need-returns-3
 returns-3 c =
@@ -72,6 +73,7 @@ pub ask-numbered-spec : {M : Type 1} → statement M
 ask-numbered-spec =
     tie.close
     (tie.spec
+    (λ c κs. tt)
     (λ c κs. tt)
     (λ c κs. tt)
     (λ c κs. tt)

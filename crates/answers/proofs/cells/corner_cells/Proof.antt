@@ -5,7 +5,7 @@ use mathlib.Core.Bool.{false}
 use mathlib.Core.List.{List, [], _∷_}
 use lib.ListN.{length}
 use Rattle.answers.proofs.ListingLaws.{listing-done, listing-refused}
-use Rattle.answers.proofs.PassedLaws.{long-enough, none-short}
+use Rattle.answers.proofs.PassedLaws.{list-as, long-enough, none-short}
 use Rattle.answers.specs.Asking.{refuseMap}
 use Rattle.model.specs.Limits.{maxCells, needCells}
 use Rattle.model.specs.Refusal.{short}
@@ -24,10 +24,10 @@ last s = (length (s .args .statuses .now), needCells) ∷ []
 abbrev rest : tie.Start → List (ℕ × ℕ)
 rest s = (length (s .args .out .now), needCells) ∷ last s
 
-due : (p : tie.After-refuse) → let a = start p .args in p .refuse .result ≡ refuseMap (short ((length (a .cells .now), maxCells) ∷ rest (start p))) (a .map) false false
-due p = rw (← p .before .lacks-three .ensures [] none-short) (p .refuse .ensures)
+due : (p : tie.After-refuse) → let a = start p .args in p .refuse .result ≡ refuseMap (short ((length (a .cells .now), maxCells) ∷ rest (start p))) (a .map) []
+due p = let l = p .before .lacks-three in list-as (p .refuse .result) (l .result) _ (start p .args .map) (p .refuse .ensures) (l .ensures [] none-short)
 
-passes : (e : tie.Else1) → let a = start (e .before) .args in refuseMap (short ((length (a .cells .now), maxCells) ∷ rest (start (e .before)))) (a .map) false false ≡ 0
+passes : (e : tie.Else1) → let a = start (e .before) .args in refuseMap (short ((length (a .cells .now), maxCells) ∷ rest (start (e .before)))) (a .map) [] ≡ 0
 passes e = sym (due (e .before)) ∙ e .if1 .left
 
 returns : tie.Need-returns
@@ -40,7 +40,7 @@ slice-aggregate-corner-cells : tie.Need-slice-aggregate-corner-cells
 slice-aggregate-corner-cells c =
     let e = c .before in
     let s = start (e .before) in
-    used (s .args .map) (s .args .cells .now) (rest s) false false (passes e)
+    used (s .args .map) (s .args .cells .now) (rest s) [] (passes e)
 
 returns-2 : tie.Need-returns-2
 returns-2 c =
@@ -48,7 +48,7 @@ returns-2 c =
     let e = d .before .before .before .before in
     let s = start (e .before) in
     let a = s .args in
-    let room = long-enough (length (a .out .now)) needCells (last s) (rest-long (a .map) (a .cells .now) (rest s) false false (passes e)) in
+    let room = long-enough (length (a .out .now)) needCells (last s) (rest-long (a .map) (a .cells .now) (rest s) [] (passes e)) in
     let space = long-enough (length (a .statuses .now)) needCells [] (room .1) in
     listing-done _ (e .before .refuse .result) (Lent (a .map) (a .cells .now)) _ _ (due (e .before)) (e .if1 .left) refl
     (corners-written (a .map) (a .cells .now) (a .out .now) (d .corner-cells .last .1 .0) (room .0) (a .statuses .now) (d .corner-cells .last .1 .1 .0) (space .0) (d .corner-cells .result) (d .corner-cells .ensures .0))

@@ -1,9 +1,9 @@
 -- `cells::is_occupied`: the refusal that is due, or whether the table has the cell. Assumes nothing.
-use mathlib.Core.Path.{_≡_, sym, ap, _∙_}
-use mathlib.Core.Bool.{Bool, false}
+use mathlib.Core.Path.{_≡_, sym, _∙_}
+use mathlib.Core.Bool.{false}
 use mathlib.Core.List.{[], _∷_}
 use lib.ListN.{length}
-use Rattle.answers.proofs.PassedLaws.{lacks-short, none-short}
+use Rattle.answers.proofs.PassedLaws.{lacks-short, list-as, none-short}
 use Rattle.answers.specs.Asking.{refuseMap}
 use Rattle.model.specs.Limits.{maxCells}
 use Rattle.model.specs.Refusal.{short}
@@ -16,10 +16,10 @@ use Rattle.answers.proofs.cells.is_occupied.Tie as tie
 abbrev start : tie.After-refuse → tie.Start
 start p = p .before .before .before
 
-due : (p : tie.After-refuse) → let a = start p .args in p .refuse .result ≡ refuseMap (short ((length (a .cells .now), maxCells) ∷ [])) (a .map) false false
+due : (p : tie.After-refuse) → let a = start p .args in p .refuse .result ≡ refuseMap (short ((length (a .cells .now), maxCells) ∷ [])) (a .map) []
 due p =
     let a = start p .args in
-    p .refuse .ensures ∙ ap (λ (s : Bool). refuseMap s (a .map) false false) (lacks-short (length (a .cells .now)) maxCells [] false (p .before .lacks .result) (p .before .lacks .ensures) none-short)
+    list-as (p .refuse .result) (p .before .lacks .result) _ (a .map) (p .refuse .ensures) (lacks-short (length (a .cells .now)) maxCells [] false (p .before .lacks .result) (p .before .lacks .ensures) none-short)
 
 returns : tie.Need-returns
 returns c =
@@ -30,7 +30,7 @@ slice-aggregate-is-occupied : tie.Need-slice-aggregate-is-occupied
 slice-aggregate-is-occupied c =
     let e = c .before in
     let a = start (e .before) .args in
-    used (a .map) (a .cells .now) [] false false (sym (due (e .before)) ∙ e .if1 .left)
+    used (a .map) (a .cells .now) [] [] (sym (due (e .before)) ∙ e .if1 .left)
 
 returns-2 : tie.Need-returns-2
 returns-2 c =

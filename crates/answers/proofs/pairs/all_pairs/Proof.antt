@@ -6,7 +6,7 @@ use mathlib.Core.Bool.{false}
 use mathlib.Core.List.{List, [], _∷_}
 use lib.ListN.{length}
 use Rattle.answers.proofs.ListingLaws.{listing-done, listing-refused}
-use Rattle.answers.proofs.PassedLaws.{accepted, none-short, lacks-short}
+use Rattle.answers.proofs.PassedLaws.{accepted, lacks-short, list-as, none-short}
 use Rattle.answers.specs.Asking.{refuseMap}
 use Rattle.model.specs.Limits.{maxCells, maxPoints, needPairs}
 use Rattle.model.specs.Refusal.{short}
@@ -25,17 +25,17 @@ abbrev lent : tie.Start → List (ℕ × ℕ)
 lent s = let a = s .args in (length (a .points .now), maxPoints) ∷ (length (a .pairs .now), pairPlaces) ∷ (length (a .lesser .now), needPairs) ∷ (length (a .greater .now), needPairs) ∷ (length (a .blocks .now), needPairs) ∷ []
 
 -- what was answered, and what it says of the lent tables where it is 0
-number : (p : tie.After-refuse) → p .refuse .result ≡ refuseMap (short (lent (start p))) (start p .args .map) false false
+number : (p : tie.After-refuse) → p .refuse .result ≡ refuseMap (short (lent (start p))) (start p .args .map) []
 number p =
     let points = p .before in
     let pairs = points .before in
     let columns = pairs .before .lacks-three in
     let e = lacks-short _ pairPlaces _ (columns .result) (pairs .lacks .result) (pairs .lacks .ensures) (columns .ensures [] none-short) in
-    let f : points .lacks2 .result ≡ short (lent (start p)) = lacks-short _ maxPoints _ (pairs .lacks .result) (points .lacks2 .result) (points .lacks2 .ensures) e in
-    rw (← f) (p .refuse .ensures)
+    list-as (p .refuse .result) (points .lacks2 .result) (short (lent (start p))) (start p .args .map) (p .refuse .ensures)
+    (lacks-short _ maxPoints _ (pairs .lacks .result) (points .lacks2 .result) (points .lacks2 .ensures) e)
 
 accept : (p : tie.Else1) → Enough (lent (start (p .before))) × (start (p .before) .args .map .cells ≤ maxCells) × (start (p .before) .args .map .points ≤ maxPoints)
-accept p = let s = start (p .before) in accepted (lent s) (s .args .map) false false (p .before .refuse .result) (number (p .before)) (p .if1 .left)
+accept p = let s = start (p .before) in accepted (lent s) (s .args .map) [] (p .before .refuse .result) (number (p .before)) (p .if1 .left)
 
 returns : tie.Need-returns
 returns c =

@@ -6,7 +6,7 @@ use mathlib.Core.Bool.{false}
 use mathlib.Core.List.{List, [], _∷_}
 use lib.ListN.{length}
 use Rattle.answers.proofs.ListingLaws.{listing-done, listing-refused}
-use Rattle.answers.proofs.PassedLaws.{accepted, none-short, lacks-short}
+use Rattle.answers.proofs.PassedLaws.{accepted, lacks-short, list-as, none-short}
 use Rattle.answers.specs.Asking.{refuseMap}
 use Rattle.model.specs.Limits.{maxCells, maxPoints, needPairs}
 use Rattle.model.specs.Refusal.{short}
@@ -25,7 +25,7 @@ abbrev lent : tie.Start → List (ℕ × ℕ)
 lent s = let a = s .args in (length (a .points .now), maxPoints) ∷ (length (a .blockers .now), maxPoints) ∷ (length (a .pairs .now), pairPlaces) ∷ (length (a .lesser .now), needPairs) ∷ (length (a .greater .now), needPairs) ∷ []
 
 -- what was answered, and what it says of the lent tables where it is 0
-number : (p : tie.After-refuse) → p .refuse .result ≡ refuseMap (short (lent (start p))) (start p .args .map) false false
+number : (p : tie.After-refuse) → p .refuse .result ≡ refuseMap (short (lent (start p))) (start p .args .map) []
 number p =
     let k = p .before in
     let j = k .before in
@@ -37,10 +37,10 @@ number p =
     let e3 = lacks-short _ pairPlaces _ (h .lacks2 .result) (i .lacks3 .result) (i .lacks3 .ensures) e2 in
     let e4 = lacks-short _ maxPoints _ (i .lacks3 .result) (j .lacks4 .result) (j .lacks4 .ensures) e3 in
     let e5 : k .lacks5 .result ≡ short (lent (start p)) = lacks-short _ maxPoints _ (j .lacks4 .result) (k .lacks5 .result) (k .lacks5 .ensures) e4 in
-    rw (← e5) (p .refuse .ensures)
+    list-as (p .refuse .result) (k .lacks5 .result) (short (lent (start p))) (start p .args .map) (p .refuse .ensures) e5
 
 accept : (p : tie.Else1) → Enough (lent (start (p .before))) × (start (p .before) .args .map .cells ≤ maxCells) × (start (p .before) .args .map .points ≤ maxPoints)
-accept p = let s = start (p .before) in accepted (lent s) (s .args .map) false false (p .before .refuse .result) (number (p .before)) (p .if1 .left)
+accept p = let s = start (p .before) in accepted (lent s) (s .args .map) [] (p .before .refuse .result) (number (p .before)) (p .if1 .left)
 
 returns : tie.Need-returns
 returns c =

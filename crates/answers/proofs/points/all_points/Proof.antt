@@ -5,7 +5,7 @@ use mathlib.Core.Bool.{false}
 use mathlib.Core.List.{List, [], _∷_}
 use lib.ListN.{length}
 use Rattle.answers.proofs.ListingLaws.{listing-done, listing-refused}
-use Rattle.answers.proofs.PassedLaws.{accepted, none-short}
+use Rattle.answers.proofs.PassedLaws.{accepted, list-as, none-short}
 use Rattle.answers.specs.Asking.{refuseMap}
 use Rattle.model.specs.Limits.{maxCells, maxPoints}
 use Rattle.model.specs.Refusal.{short}
@@ -22,13 +22,14 @@ abbrev lent : tie.Start → List (ℕ × ℕ)
 lent s = let a = s .args in (length (a .points .now), maxPoints) ∷ (length (a .statuses .now), maxPoints) ∷ (length (a .blockers .now), maxPoints) ∷ (length (a .out .now), maxPoints) ∷ (length (a .bits .now), maxPoints) ∷ (length (a .blocks .now), maxPoints) ∷ []
 
 -- what was answered, and what it says of the lent tables where it is 0
-number : (p : tie.After-refuse) → p .refuse .result ≡ refuseMap (short (lent (start p))) (start p .args .map) false false
+number : (p : tie.After-refuse) → p .refuse .result ≡ refuseMap (short (lent (start p))) (start p .args .map) []
 number p =
     let l = p .before in
-    rw (← l .lacks-three2 .ensures _ (l .before .lacks-three .ensures [] none-short)) (p .refuse .ensures)
+    list-as (p .refuse .result) (l .lacks-three2 .result) (short (lent (start p))) (start p .args .map) (p .refuse .ensures)
+    (l .lacks-three2 .ensures _ (l .before .lacks-three .ensures [] none-short))
 
 accept : (p : tie.Else1) → Enough (lent (start (p .before))) × (start (p .before) .args .map .cells ≤ maxCells) × (start (p .before) .args .map .points ≤ maxPoints)
-accept p = let s = start (p .before) in accepted (lent s) (s .args .map) false false (p .before .refuse .result) (number (p .before)) (p .if1 .left)
+accept p = let s = start (p .before) in accepted (lent s) (s .args .map) [] (p .before .refuse .result) (number (p .before)) (p .if1 .left)
 
 -- where nothing is refused, from the second copy; and that, from the third
 abbrev second : tie.After-slice-known4 → tie.Else1

@@ -1,60 +1,34 @@
--- `change::judge` is the first refusal that applies. Assumes nothing.
-use mathlib.Core.Path.{_≡_, sym, ap, _∙_}
-use mathlib.Core.Bool.{Bool, cond}
-use Prim.Native.Nat.{ℕ}
-use lib.Dec.{ltb}
+-- `change::judge`: what is due is added to the word from the last to the first. Assumes nothing.
+use mathlib.Core.Path.{refl, ap, _∙_}
+use mathlib.Core.List.{[]}
 use borrow.Author.Needs.{needs}
-use borrow.Author.Tests.{lt-ltb, le-ltb}
-use Rattle.model.specs.Limits.{maxCells}
-use Rattle.grid.specs.Change.{refuseChange}
-use Rattle.grid.proofs.RefuseLaws.{change-batch, change-last, change-short, change-size}
+use Rattle.limits.proofs.WordLaws.{both-added, due-added, none-added}
+use Rattle.limits.specs.Words.{looked, wordOn}
+use Rattle.grid.proofs.RefuseLaws.{change-judged}
 use Rattle.grid.proofs.change.judge.Statement.{statement}
 use Rattle.grid.proofs.change.judge.Tie as tie
 
 returns : tie.Need-returns
-returns c = let a = c .before .args in change-short (a .short) (a .size) (a .batch .now) (ltb maxCells (a .cells)) (c .if1 .taken)
-
-returns-2 : tie.Need-returns-2
-returns-2 c =
-    let s = c .before in
-    let a = s .before .before .args in
-    change-size (a .short) (a .size) (a .batch .now) (ltb maxCells (a .cells)) (s .before .if1 .left) (sym (s .bad-size .ensures) ∙ c .if2 .taken)
-
-returns-3 : tie.Need-returns-3
-returns-3 c =
-    let b = c .before in
-    let e = b .before in
-    let s = e .before in
-    let a = s .before .before .args in
-    change-batch (a .short) (a .size) (a .batch .now) (ltb maxCells (a .cells)) (s .before .if1 .left) (sym (s .bad-size .ensures) ∙ e .if2 .left) (b .refuse-batch .result) (b .refuse-batch .ensures) (c .if3 .taken)
-
--- nothing but the number of cells is left to judge
-last : (c : tie.Else3) →
-    let b = c .before in
-    let s = b .before .before in
-    let a = s .before .before .args in
-    _≡_ {A = ℕ} (cond (ltb maxCells (a .cells)) 6 0) (refuseChange (a .short) (a .size) (a .batch .now) (ltb maxCells (a .cells)))
-last c =
-    let b = c .before in
-    let e = b .before in
-    let s = e .before in
-    let a = s .before .before .args in
-    change-last (a .short) (a .size) (a .batch .now) (ltb maxCells (a .cells)) (s .before .if1 .left) (sym (s .bad-size .ensures) ∙ e .if2 .left) (b .refuse-batch .result) (b .refuse-batch .ensures) (c .if3 .left)
-
-returns-4 : tie.Need-returns-4
-returns-4 c = let n = c .before .before .before .before .before .before .args .cells in sym (ap (λ (t : Bool). cond t 6 0) (lt-ltb maxCells n (c .if4 .taken))) ∙ last (c .before)
-
-returns-5 : tie.Need-returns-5
-returns-5 c = let n = c .before .before .before .before .before .before .args .cells in sym (ap (λ (t : Bool). cond t 6 0) (le-ltb maxCells n (c .if4 .left))) ∙ last (c .before)
+returns c =
+    let short = c .before in
+    let size = short .before in
+    let batch = size .before .before in
+    let cells = batch .before in
+    let a = cells .before .args in
+    let b = a .batch .now in
+    change-judged (a .short) (a .size) b _ (c .first-due .ensures)
+    (due-added 9 0 _ _ (short .due3 .ensures) refl refl
+    (due-added 1 0 _ _ (size .due2 .ensures) refl (size .before .bad-size .ensures)
+    (batch .batch-due .ensures ∙ ap (λ w. wordOn w (looked b)) (due-added 6 0 _ [] (cells .due .ensures) refl refl (none-added 0)) ∙ both-added 0 (looked b) _)))
 
 pub judge-spec : {M : Type 1} → statement M
 judge-spec =
     tie.close
     (tie.spec
-    returns
     (λ c κs. search needs)
-    returns-2
     (λ c κs. search needs)
-    returns-3
-    returns-4
-    returns-5)
+    (λ c κs. search needs)
+    (λ c κs. search needs)
+    (λ c κs. search needs)
+    (λ c κs. search needs)
+    returns)

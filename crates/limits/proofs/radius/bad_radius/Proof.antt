@@ -17,9 +17,6 @@ use Rattle.limits.proofs.radius.bad_radius.Tie as tie
 float-from-bits-if2 : tie.Need-float-from-bits-if2
 float-from-bits-if2 c = no-nan-bits 9218868437227405312 (omega arith)
 
-ceil-to-i64-requires : tie.Need-ceil-to-i64-requires
-ceil-to-i64-requires c κs = search needs
-
 returns : tie.Need-returns
 unfolding ofBits odd shiftF
 returns c =
@@ -35,4 +32,4 @@ returns-2 c =
     ⊎-elim (λ w. sym (radius-endless (a .size) (a .radius) (w .1 .left))) (λ w. sym (radius-low (a .size) (a .radius) (w .left))) (c .if1 .came)
 
 pub bad-radius-spec : {M : Type 1} → statement M
-bad-radius-spec = tie.close (tie.spec float-from-bits-if2 ceil-to-i64-requires returns returns-2)
+bad-radius-spec = tie.close (tie.spec float-from-bits-if2 (λ c κs. search needs) returns returns-2)

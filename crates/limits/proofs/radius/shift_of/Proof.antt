@@ -11,9 +11,6 @@ use Rattle.limits.proofs.RadiusLaws.{above-fits, above-sign, natural-ab
 use Rattle.limits.proofs.radius.shift_of.Statement.{statement}
 use Rattle.limits.proofs.radius.shift_of.Tie as tie
 
-ceil-to-i64-requires : tie.Need-ceil-to-i64-requires
-ceil-to-i64-requires c κs = search needs
-
 cast-result : tie.Need-cast-result
 cast-result c =
     let z = c .before .ceil-to-i64 .result in
@@ -38,4 +35,4 @@ returns-2 c =
     rw e (sym (ap natural (sym (c .before .ceil-to-i64 .ensures)) ∙ natural-above z (rw e at (c .if1 .left))))
 
 pub shift-of-spec : {M : Type 1} → statement M
-shift-of-spec = tie.close (tie.spec ceil-to-i64-requires cast-result returns returns-2)
+shift-of-spec = tie.close (tie.spec (λ c κs. search needs) cast-result returns returns-2)

@@ -4,9 +4,6 @@ use borrow.Author.Needs.{needs}
 use Rattle.question.proofs.ask.place_of.Statement.{statement}
 use Rattle.question.proofs.ask.place_of.Tie as tie
 
-of-key-requires : tie.Need-of-key-requires
-of-key-requires c κs = search needs
-
 returns : tie.Need-returns
 returns c = rw (c .before .if1 .taken, c .of-key .ensures .0, c .of-key .ensures .1) refl
 
@@ -14,4 +11,4 @@ returns-2 : tie.Need-returns-2
 returns-2 c = rw (c .if1 .left) refl
 
 pub place-of-spec : {M : Type 1} → statement M
-place-of-spec = tie.close (tie.spec of-key-requires returns returns-2)
+place-of-spec = tie.close (tie.spec (λ c κs. search needs) returns returns-2)

@@ -4,17 +4,11 @@ use borrow.Author.Needs.{needs}
 use Rattle.question.proofs.judge.bad_disc.Statement.{statement}
 use Rattle.question.proofs.judge.bad_disc.Tie as tie
 
-bad-point-requires : tie.Need-bad-point-requires
-bad-point-requires c κs = search needs
-
 returns : tie.Need-returns
 returns c = rw (sym (c .before .bad-point .ensures) ∙ c .if1 .taken) refl
-
-bad-length-requires : tie.Need-bad-length-requires
-bad-length-requires c κs = search needs
 
 returns-2 : tie.Need-returns-2
 returns-2 c = rw (sym (c .before .before .bad-point .ensures) ∙ c .before .if1 .left) (c .bad-length .ensures)
 
 pub bad-disc-spec : {M : Type 1} → statement M
-bad-disc-spec = tie.close (tie.spec bad-point-requires returns bad-length-requires returns-2)
+bad-disc-spec = tie.close (tie.spec (λ c κs. search needs) returns (λ c κs. search needs) returns-2)

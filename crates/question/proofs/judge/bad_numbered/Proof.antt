@@ -8,12 +8,6 @@ use Rattle.question.proofs.judge.bad_numbered.Tie as tie
 enum-told : tie.Need-enum-told
 enum-told c = search needs
 
-enum-known-numbered : tie.Need-enum-known-numbered
-enum-known-numbered c = search needs
-
-bad-question-requires : tie.Need-bad-question-requires
-bad-question-requires c κs = search needs
-
 returns : tie.Need-returns
 returns c = sym (ap badNumbered (c .enum-told .given .1))
 
@@ -21,4 +15,4 @@ returns-2 : tie.Need-returns-2
 returns-2 c = c .bad-question .ensures ∙ sym (ap badNumbered (c .before .before .numbered .given .1))
 
 pub bad-numbered-spec : {M : Type 1} → statement M
-bad-numbered-spec = tie.close (tie.spec enum-told enum-known-numbered bad-question-requires returns returns-2)
+bad-numbered-spec = tie.close (tie.spec enum-told (λ c. search needs) (λ c κs. search needs) returns returns-2)

@@ -5,18 +5,6 @@ use Rattle.question.proofs.TakenLaws.{circle-found}
 use Rattle.question.proofs.search.circle.Statement.{statement}
 use Rattle.question.proofs.search.circle.Tie as tie
 
-around-requires : tie.Need-around-requires
-around-requires c κs = search needs
-
-around-requires-2 : tie.Need-around-requires-2
-around-requires-2 c κs = search needs
-
-new-requires : tie.Need-new-requires
-new-requires c κs = search needs
-
-first-round-requires : tie.Need-first-round-requires
-first-round-requires c κs = search needs
-
 returns : tie.Need-returns
 returns c =
     let g = c .before in
@@ -27,4 +15,4 @@ returns c =
 
 pub circle-spec : {M : Type 1} → statement M
 circle-spec =
-    tie.close (tie.spec around-requires around-requires-2 new-requires first-round-requires returns)
+    tie.close (tie.spec (λ c κs. search needs) (λ c κs. search needs) (λ c κs. search needs) (λ c κs. search needs) returns)

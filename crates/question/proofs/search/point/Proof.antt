@@ -6,17 +6,11 @@ use Rattle.question.proofs.TakenLaws.{column-small, point-found}
 use Rattle.question.proofs.search.point.Statement.{statement}
 use Rattle.question.proofs.search.point.Tie as tie
 
-column-of-requires : tie.Need-column-of-requires
-column-of-requires c κs = search needs
-
 mul-k : tie.Need-mul-k
 mul-k c =
     let s = c .before .before .before .args in
     let h = column-small (s .size) (s .p .x) (c .column-of .result) (c .column-of .ensures) in
     omega arith
-
-column-of-requires-2 : tie.Need-column-of-requires-2
-column-of-requires-2 c κs = search needs
 
 add-k : tie.Need-add-k
 add-k c =
@@ -25,12 +19,6 @@ add-k c =
     let h = column-small (s .size) (s .p .x) (u .column-of .result) (u .column-of .ensures) in
     let k = column-small (s .size) (s .p .y) (c .column-of2 .result) (c .column-of2 .ensures) in
     omega arith
-
-contains-requires : tie.Need-contains-requires
-contains-requires c κs = search needs
-
-only-requires : tie.Need-only-requires
-only-requires c κs = search needs
 
 returns : tie.Need-returns
 returns c =
@@ -44,10 +32,10 @@ pub point-spec : {M : Type 1} → statement M
 point-spec =
     tie.close
     (tie.spec
-    column-of-requires
+    (λ c κs. search needs)
     mul-k
-    column-of-requires-2
+    (λ c κs. search needs)
     add-k
-    contains-requires
-    only-requires
+    (λ c κs. search needs)
+    (λ c κs. search needs)
     returns)

@@ -4,30 +4,6 @@ use Rattle.model.specs.Shape.{ask}
 use Rattle.question.proofs.search.search.Statement.{statement}
 use Rattle.question.proofs.search.search.Tie as tie
 
-enum-known-question : tie.Need-enum-known-question
-enum-known-question c = search needs
-
-point-requires : tie.Need-point-requires
-point-requires c κs = search needs
-
-enum-known-question-2 : tie.Need-enum-known-question-2
-enum-known-question-2 c = search needs
-
-square-requires : tie.Need-square-requires
-square-requires c κs = search needs
-
-enum-known-question-3 : tie.Need-enum-known-question-3
-enum-known-question-3 c = search needs
-
-circle-requires : tie.Need-circle-requires
-circle-requires c κs = search needs
-
-enum-known-question-4 : tie.Need-enum-known-question-4
-enum-known-question-4 c = search needs
-
-sweep-requires : tie.Need-sweep-requires
-sweep-requires c κs = search needs
-
 returns : tie.Need-returns
 unfolding ask
 returns c = λ a i. rw (c .before .before .question .given .1) (c .point .ensures a)
@@ -48,14 +24,14 @@ pub search-spec : {M : Type 1} → statement M
 search-spec =
     tie.close
     (tie.spec
-    enum-known-question
-    point-requires
-    enum-known-question-2
-    square-requires
-    enum-known-question-3
-    circle-requires
-    enum-known-question-4
-    sweep-requires
+    (λ c. search needs)
+    (λ c κs. search needs)
+    (λ c. search needs)
+    (λ c κs. search needs)
+    (λ c. search needs)
+    (λ c κs. search needs)
+    (λ c. search needs)
+    (λ c κs. search needs)
     returns
     returns-2
     returns-3

@@ -6,15 +6,6 @@ use Rattle.question.proofs.TakenLaws.{square-found}
 use Rattle.question.proofs.search.square.Statement.{statement}
 use Rattle.question.proofs.search.square.Tie as tie
 
-around-requires : tie.Need-around-requires
-around-requires c κs = search needs
-
-around-requires-2 : tie.Need-around-requires-2
-around-requires-2 c κs = search needs
-
-first-flat-requires : tie.Need-first-flat-requires
-first-flat-requires c κs = search needs
-
 returns : tie.Need-returns
 unfolding ofBits
 returns c =
@@ -24,4 +15,4 @@ returns c =
     λ a i. square-found (s .size) (s .cells .now) i (c .first-flat .result) (x .around .result) (pt (s .p)) (y .around2 .result) (s .width) (x .around .ensures) (y .around2 .ensures) (c .first-flat .ensures a)
 
 pub square-spec : {M : Type 1} → statement M
-square-spec = tie.close (tie.spec around-requires around-requires-2 first-flat-requires returns)
+square-spec = tie.close (tie.spec (λ c κs. search needs) (λ c κs. search needs) (λ c κs. search needs) returns)

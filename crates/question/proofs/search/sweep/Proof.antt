@@ -14,15 +14,6 @@ use Rattle.question.proofs.search.sweep.Tie as tie
 way : (n : tie.After-norm) → let s = n .before .before .before .args in n .norm .result ≡ norm (minus (pt (s .p1)) (pt (s .p0)))
 way n = n .norm .ensures ∙ ap norm (n .before .minus .ensures)
 
-minus-requires : tie.Need-minus-requires
-minus-requires c κs = search needs
-
-norm-requires : tie.Need-norm-requires
-norm-requires c κs = search needs
-
-point-requires : tie.Need-point-requires
-point-requires c κs = search needs
-
 returns : tie.Need-returns
 unfolding tiny
 returns c =
@@ -30,15 +21,6 @@ returns c =
     let s = n .before .before .before .args in
     let t : lt (norm (minus (pt (s .p1)) (pt (s .p0)))) tiny ≡ true = rw (way n) at (c .before .if1 .taken) in
     λ a i. c .point .ensures a ∙ ap foundAs (sweep-short (s .size) (s .cells .now) (pt (s .p0)) (pt (s .p1)) (s .width) t)
-
-new-requires : tie.Need-new-requires
-new-requires c κs = search needs
-
-columns-requires : tie.Need-columns-requires
-columns-requires c κs = search needs
-
-first-swept-requires : tie.Need-first-swept-requires
-first-swept-requires c κs = search needs
 
 returns-2 : tie.Need-returns-2
 unfolding tiny
@@ -54,11 +36,11 @@ pub sweep-spec : {M : Type 1} → statement M
 sweep-spec =
     tie.close
     (tie.spec
-    minus-requires
-    norm-requires
-    point-requires
+    (λ c κs. search needs)
+    (λ c κs. search needs)
+    (λ c κs. search needs)
     returns
-    new-requires
-    columns-requires
-    first-swept-requires
+    (λ c κs. search needs)
+    (λ c κs. search needs)
+    (λ c κs. search needs)
     returns-2)

@@ -6,12 +6,6 @@ use Rattle.question.proofs.WalkLaws.{rows-answered}
 use Rattle.question.proofs.walk.flat_in.Statement.{statement}
 use Rattle.question.proofs.walk.flat_in.Tie as tie
 
-rows-from-requires : tie.Need-rows-from-requires
-rows-from-requires c κs = search needs
-
-lowest-requires : tie.Need-lowest-requires
-lowest-requires c κs = search needs
-
 returns : tie.Need-returns
 returns c =
     let f = c .before in
@@ -19,4 +13,4 @@ returns c =
     λ x a o. rows-answered (flat (s .rows)) x (s .col .now) (f .rows-from .result .now) (s .rows) (c .lowest .result) refl a o (f .rows-from .ensures x a o) (λ z. c .lowest .ensures z (s .rows))
 
 pub flat-in-spec : {M : Type 1} → statement M
-flat-in-spec = tie.close (tie.spec rows-from-requires lowest-requires returns)
+flat-in-spec = tie.close (tie.spec (λ c κs. search needs) (λ c κs. search needs) returns)

@@ -4,12 +4,6 @@ use borrow.Author.Needs.{needs}
 use Rattle.question.proofs.walk.met_in_rows.Statement.{statement}
 use Rattle.question.proofs.walk.met_in_rows.Tie as tie
 
-in-rows-requires : tie.Need-in-rows-requires
-in-rows-requires c κs = search needs
-
-meets-requires : tie.Need-meets-requires
-meets-requires c κs = search needs
-
 returns : tie.Need-returns
 returns c = rw (sym (c .before .before .in-rows .ensures) ∙ c .before .if1 .taken) (c .meets .ensures)
 
@@ -17,4 +11,4 @@ returns-2 : tie.Need-returns-2
 returns-2 c = rw (sym (c .before .in-rows .ensures) ∙ c .if1 .left) refl
 
 pub met-in-rows-spec : {M : Type 1} → statement M
-met-in-rows-spec = tie.close (tie.spec in-rows-requires meets-requires returns returns-2)
+met-in-rows-spec = tie.close (tie.spec (λ c κs. search needs) (λ c κs. search needs) returns returns-2)

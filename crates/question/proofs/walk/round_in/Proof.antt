@@ -6,12 +6,6 @@ use Rattle.question.proofs.WalkLaws.{rows-answered}
 use Rattle.question.proofs.walk.round_in.Statement.{statement}
 use Rattle.question.proofs.walk.round_in.Tie as tie
 
-rows-from-requires : tie.Need-rows-from-requires
-rows-from-requires c κs = search needs
-
-first-met-requires : tie.Need-first-met-requires
-first-met-requires c κs = search needs
-
 returns : tie.Need-returns
 returns c =
     let f = c .before in
@@ -19,4 +13,4 @@ returns c =
     λ x a o. rows-answered (round (s .rows) (s .circle)) x (s .col .now) (f .rows-from .result .now) (s .rows) (c .first-met .result) refl a o (f .rows-from .ensures x a o) (λ z. c .first-met .ensures z (s .rows))
 
 pub round-in-spec : {M : Type 1} → statement M
-round-in-spec = tie.close (tie.spec rows-from-requires first-met-requires returns)
+round-in-spec = tie.close (tie.spec (λ c κs. search needs) (λ c κs. search needs) returns)

@@ -7,16 +7,10 @@ use Rattle.question.specs.Walk.{columnTaken, flat, keyed}
 use Rattle.question.proofs.walk.swept_in.Statement.{statement}
 use Rattle.question.proofs.walk.swept_in.Tie as tie
 
-rows-requires : tie.Need-rows-requires
-rows-requires c κs = search needs
-
-flat-in-requires : tie.Need-flat-in-requires
-flat-in-requires c κs = search needs
-
 returns : tie.Need-returns
 returns c =
     let s = c .before .before .before .args in
     λ a o. c .flat-in .ensures (s .x) a o ∙ ap (λ (b : Bounds). keyed (find (columnTaken (flat b) (s .x)) (s .col .now))) (c .before .rows .ensures)
 
 pub swept-in-spec : {M : Type 1} → statement M
-swept-in-spec = tie.close (tie.spec rows-requires flat-in-requires returns)
+swept-in-spec = tie.close (tie.spec (λ c κs. search needs) (λ c κs. search needs) returns)

@@ -10,7 +10,7 @@ use mathlib.Core.Logic.{⊎-elim, inl, inr}
 use lib.ListN.{length, length-replicate, replicate, take}
 use lib.Seq.{length-take-le}
 use Rattle.answers.proofs.ListingLaws.{listing-done, listing-refused}
-use Rattle.answers.proofs.PassedLaws.{accepted, none-short, lacks-short}
+use Rattle.answers.proofs.PassedLaws.{accepted, lacks-short, list-as, none-short}
 use Rattle.answers.specs.Asking.{refuseMap}
 use Rattle.answers.proofs.PointLaws.{used}
 use Rattle.answers.specs.Walks.{tableNeeds}
@@ -31,15 +31,16 @@ lent s = let a = s .args in
     tableNeeds (length (a .cells .now)) (length (a .points .now)) (length (a .statuses .now)) (length (a .blockers .now)) (length (a .pairs .now)) ((length (a .out .now), needListing) ∷ [])
 
 -- what was answered, and what it says of the lent tables where it is 0
-number : (p : tie.After-refuse) → p .refuse .result ≡ refuseMap (short (lent (start p))) (start p .args .map) false false
+number : (p : tie.After-refuse) → p .refuse .result ≡ refuseMap (short (lent (start p))) (start p .args .map) []
 number p =
     let t = p .before in
     let o = t .before .lacks in
     let e = lacks-short (length (start p .args .out .now)) needListing [] false (o .result) (o .ensures) none-short in
-    rw (← t .lacks-tables .ensures ((length (start p .args .out .now), needListing) ∷ []) e) (p .refuse .ensures)
+    list-as (p .refuse .result) (t .lacks-tables .result) (short (lent (start p))) (start p .args .map) (p .refuse .ensures)
+    (t .lacks-tables .ensures ((length (start p .args .out .now), needListing) ∷ []) e)
 
 accept : (p : tie.Else1) → Enough (lent (start (p .before))) × (start (p .before) .args .map .cells ≤ maxCells) × (start (p .before) .args .map .points ≤ maxPoints)
-accept p = let s = start (p .before) in accepted (lent s) (s .args .map) false false (p .before .refuse .result) (number (p .before)) (p .if1 .left)
+accept p = let s = start (p .before) in accepted (lent s) (s .args .map) [] (p .before .refuse .result) (number (p .before)) (p .if1 .left)
 
 -- where nothing is refused; where the pairs are listed; where they are counted; where the points are printed
 abbrev listing : tie.Joined2 → tie.After-all-pairs

@@ -4,7 +4,7 @@ use mathlib.Core.List.{[], _∷_}
 use mathlib.Core.Bool.{false}
 use lib.ListN.{length}
 use Rattle.answers.proofs.ListingLaws.{listing-refused}
-use Rattle.answers.proofs.PassedLaws.{refused-as, lacks-short, none-short}
+use Rattle.answers.proofs.PassedLaws.{asked-as, lacks-short, none-short}
 use Rattle.model.specs.Limits.{maxCells, needOthers}
 use Rattle.views.specs.Seen.{besideLengths as lengths, refusal}
 use Rattle.views.proofs.NeighbourLaws.{Going, around-fits, cells-used, steps-listed, taken-listed}
@@ -26,7 +26,7 @@ number p =
     let a = start p .args in
     let l = p .before .before in
     let o = l .before .lacks in
-    refused-as (p .refuse .result) (l .lacks2 .result) _ (a .map) (p .before .off-edge .result) _ false (p .refuse .ensures)
+    asked-as (p .refuse .result) (l .lacks2 .result) _ (a .map) (p .before .off-edge .result) _ (p .refuse .ensures)
     (lacks-short (length (a .cells .now)) maxCells ((length (a .out .now), needOthers) ∷ []) (o .result) (l .lacks2 .result) (l .lacks2 .ensures)
     (lacks-short (length (a .out .now)) needOthers [] false (o .result) (o .ensures) none-short))
     (p .before .off-edge .ensures)

@@ -6,7 +6,7 @@ use mathlib.Core.List.{[], _∷_}
 use mathlib.Core.Bool.{Bool, true, false}
 use lib.ListN.{length, take}
 use Rattle.answers.proofs.ListingLaws.{listing-refused}
-use Rattle.answers.proofs.PassedLaws.{refused-as, lacks-short, none-short}
+use Rattle.answers.proofs.PassedLaws.{asked-as, lacks-short, none-short}
 use Rattle.model.specs.Limits.{needOthers}
 use Rattle.table.specs.Tables.{stands}
 use Rattle.held.specs.Holds.{Tables, tablesOf}
@@ -37,7 +37,7 @@ number p =
     let a = start p .args in
     let tables = p .before .before in
     let out = tables .before .lacks in
-    refused-as (p .refuse .result) (tables .lacks-tables .result) _ (a .map) (p .before .off-edge .result) _ false (p .refuse .ensures)
+    asked-as (p .refuse .result) (tables .lacks-tables .result) _ (a .map) (p .before .off-edge .result) _ (p .refuse .ensures)
     (tables .lacks-tables .ensures ((length (a .out .now), needOthers) ∷ []) (lacks-short (length (a .out .now)) needOthers [] false (out .result) (out .ensures) none-short))
     (p .before .off-edge .ensures)
 

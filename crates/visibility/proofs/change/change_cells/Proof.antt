@@ -9,22 +9,19 @@ use Rattle.model.specs.Limits.{maxCells}
 use Rattle.model.specs.Refusal.{short}
 use Rattle.visibility.specs.Change.{Lent, lentNeeds, lentOf, refuseBatch}
 use Rattle.held.specs.Holds as tables
-use Rattle.visibility.proofs.ChangeLaws.{Passed, batch-passed, crowded-refused, early-refused, packed-refused, short-either, updated}
+use Rattle.visibility.proofs.ChangeLaws.{Passed, batch-passed, early-refused, room-passed, room-refused, room-updated, short-either}
 use Rattle.held.proofs.RoomLaws.{Enough, long-enough}
 use Rattle.visibility.proofs.change.change_cells.Statement.{statement}
 use Rattle.visibility.proofs.change.change_cells.Tie as tie
 
--- the places: the start; past the input's refusals; past the cells' number; past the points'; the batch done
+-- the places: the start; past the input's refusals; past the numbers of cells and points; the batch done
 abbrev start : tie.After-judge → tie.Start
 start p = p .before .before .before .before .before .before .before .before .before .before .before .before .before
 
 abbrev entry : tie.After-count-after → tie.Else2
 entry p = p .before .before
 
-abbrev fitting : tie.Else4 → tie.Else3
-fitting p = p .before .before
-
-abbrev ready : tie.After-update-arg9 → tie.Else4
+abbrev ready : tie.After-update-arg9 → tie.Else3
 ready p = p .before .before .before .before .before .before .before .before .before
 
 abbrev ended : tie.After-slice-known18 → tie.After-update
@@ -94,37 +91,36 @@ slice-aggregate-count-after c =
 
 returns-2 : tie.Need-returns-2
 returns-2 c =
-    let k = c .before .before in
-    let e = entry k in
-    let a = start (e .before) .args in
-    crowded-refused (a .map) (a .batch .now) (lent (start (e .before))) _ (c .refused2 .result) (none e) (k .count-after .result) (k .count-after .ensures) (c .before .if3 .taken) (c .refused2 .ensures) refl
-
-returns-3 : tie.Need-returns-3
-returns-3 c =
-    let g = c .before .before .before in
+    let g = c .before .before in
     let k = g .before in
     let e = entry k in
     let a = start (e .before) .args in
-    packed-refused (a .map) (a .batch .now) (lent (start (e .before))) _ (c .refused3 .result) (none e) (k .count-after .result) (k .count-after .ensures) (g .if3 .left) (c .before .if4 .taken) (c .refused3 .ensures) refl
+    room-refused (a .map) (a .batch .now) (lent (start (e .before))) _ (c .refused2 .result) (none e) (k .count-after .result) (k .count-after .ensures) (g .judge-room .result) (g .judge-room .ensures)
+    (c .before .if3 .taken) (c .refused2 .ensures) refl
 
 update-requires : tie.Need-update-requires
 update-requires c κs =
     let f = ready c in
-    let e = entry (fitting f .before) in
-    let q = passed e in
-    let n = long e in
-    let o = n .1 .1 .1 .1 .1 in
-    (q .small, n .0, f .if4 .left, n .1 .0, n .1 .1 .0, n .1 .1 .1 .0, q .few, o .0, o .1 .0, o .1 .1 .0, o .1 .1 .1 .0)
-
-returns-4 : tie.Need-returns-4
-returns-4 c =
-    let y = ended c in
-    let f = ready (y .before) in
-    let g = fitting f in
+    let g = f .before in
     let k = g .before in
     let e = entry k in
     let a = start (e .before) .args in
-    updated (a .map) (a .batch .now) (lent (start (e .before))) (given y) (y .update .result) (none e) (k .count-after .result) (k .count-after .ensures) (g .if3 .left) (f .if4 .left) (y .update .ensures)
+    let q = passed e in
+    let n = long e in
+    let o = n .1 .1 .1 .1 .1 in
+    let few = room-passed (k .count-after .result) (a .map .points) (g .judge-room .result) (g .judge-room .ensures) (f .if3 .left) in
+    (q .small, n .0, few .1, n .1 .0, n .1 .1 .0, n .1 .1 .1 .0, q .few, o .0, o .1 .0, o .1 .1 .0, o .1 .1 .1 .0)
+
+returns-3 : tie.Need-returns-3
+returns-3 c =
+    let y = ended c in
+    let f = ready (y .before) in
+    let g = f .before in
+    let k = g .before in
+    let e = entry k in
+    let a = start (e .before) .args in
+    room-updated (a .map) (a .batch .now) (lent (start (e .before))) (given y) (y .update .result) (none e) (k .count-after .result) (k .count-after .ensures) (g .judge-room .result) (g .judge-room .ensures)
+    (f .if3 .left) (y .update .ensures)
 
 pub change-cells-spec : {M : Type 1} → statement M
 change-cells-spec =
@@ -139,11 +135,9 @@ change-cells-spec =
     slice-aggregate-count-after
     (λ c κs. tt)
     (λ c κs. tt)
-    (λ c. refl)
-    returns-2
     (λ c κs. tt)
     (λ c. refl)
-    returns-3
+    returns-2
     update-requires
     (λ c. ended c .update .kept .1 .0)
     (λ c. ended c .update .kept .1 .1 .0)
@@ -154,4 +148,4 @@ change-cells-spec =
     (λ c. ended c .update .kept .1 .1 .1 .1 .1 .1 .1 .1 .0)
     (λ c. ended c .update .kept .1 .1 .1 .1 .1 .1 .1 .1 .1 .0)
     (λ c. ended c .update .kept .1 .1 .1 .1 .1 .1 .1 .1 .1 .1 .0)
-    returns-4)
+    returns-3)

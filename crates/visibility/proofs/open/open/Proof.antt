@@ -5,22 +5,19 @@ use lib.Seq.{length-take-le}
 use borrow.Author.Needs.{needs}
 use Rattle.held.specs.Pairs.{pairPlaces}
 use Rattle.model.specs.Limits.{maxCells, maxPoints}
-use Rattle.model.specs.Refusal.{badSize, short}
+use Rattle.model.specs.Refusal.{badRadius, badSize, refuseOpen, short}
 use Rattle.held.specs.Holds.{Tables, tablesOf}
 use Rattle.held.specs.Holds as tables
 use Rattle.held.proofs.RoomLaws.{Enough, long-enough}
-use Rattle.visibility.proofs.OpenLaws.{open-done, open-radius, open-refused, open-short, open-size}
+use Rattle.visibility.proofs.OpenLaws.{open-done, open-judged, open-passed, open-refused}
 use Rattle.visibility.proofs.open.open.Statement.{statement}
 use Rattle.visibility.proofs.open.open.Tie as tie
 
--- the places: the start; where nothing is refused; each table cleared
+-- the places: the start; each table cleared
 abbrev start : tie.After-short-tables → tie.Start
 start p = p .before .before .before .before .before .before
 
-abbrev entry : tie.Else3 → tie.Else1
-entry p = p .before .before .before .before
-
-abbrev first : tie.After-slice-known6 → tie.Else3
+abbrev first : tie.After-slice-known6 → tie.Else1
 first p = p .before .before .before .before
 
 abbrev second : tie.After-slice-known7 → tie.After-slice-known6
@@ -39,42 +36,29 @@ fifth p = p .before .before .before .before
 abbrev lent : tie.Start → Tables
 lent s = let a = s .args in tablesOf (a .cells .now) (a .points .now) (a .statuses .now) (a .blockers .now) (a .pairs .now)
 
-judged : (p : tie.After-short-tables) → short (tables.needs (lent (start p))) ≡ p .short-tables .result
-judged p = sym (p .short-tables .ensures)
+number : (p : tie.After-judge) → let s = start (p .before) in p .judge .result ≡ refuseOpen (tables.needs (lent s)) (s .args .size) (s .args .radius)
+number p =
+    let s = start (p .before) in
+    open-judged (tables.needs (lent s)) (s .args .size) (s .args .radius) (p .before .short-tables .result) (p .judge .result) (p .judge .ensures) (p .before .short-tables .ensures)
 
-long : (p : tie.Else1) → short (tables.needs (lent (start (p .before)))) ≡ false
-long p = judged (p .before) ∙ p .if1 .left
+abbrev given : tie.Else1 → Tables
+given p = lent (start (p .before .before))
 
-sized : (p : tie.Else2) → badSize (start (p .before .before .before) .args .size) ≡ false
-sized p = sym (p .before .bad-size .ensures) ∙ p .if2 .left
+passed : (p : tie.Else1) →
+    let s = start (p .before .before) in
+    (short (tables.needs (given p)) ≡ false) × (badSize (s .args .size) ≡ false) × (badRadius (s .args .size) (s .args .radius) ≡ false)
+passed p =
+    let s = start (p .before .before) in
+    open-passed (tables.needs (given p)) (s .args .size) (s .args .radius) (sym (number (p .before)) ∙ p .if1 .left)
 
-abbrev given : tie.Else3 → Tables
-given p = lent (start (entry p .before))
-
-room : (p : tie.Else3) → Enough (tables.needs (given p))
-room p = long-enough (tables.needs (given p)) (long (entry p))
+room : (p : tie.Else1) → Enough (tables.needs (given p))
+room p = long-enough (tables.needs (given p)) (passed p .0)
 
 returns : tie.Need-returns
 returns c =
     let p = c .before .before in
-    let s = start p in
-    let l = lent s in
-    open-refused (s .args .size) (s .args .radius) l 8 (c .refused .result) (c .refused .ensures) (open-short (tables.needs l) (s .args .size) (s .args .radius) (judged p ∙ c .before .if1 .taken))
-
-returns-2 : tie.Need-returns-2
-returns-2 c =
-    let p = c .before .before in
-    let s = start (p .before .before) in
-    let l = lent s in
-    open-refused (s .args .size) (s .args .radius) l 0 (c .refused2 .result) (c .refused2 .ensures) (open-size (tables.needs l) (s .args .size) (s .args .radius) (long (p .before)) (sym (p .bad-size .ensures) ∙ c .before .if2 .taken))
-
-returns-3 : tie.Need-returns-3
-returns-3 c =
-    let p = c .before .before in
-    let e = p .before .before .before in
-    let s = start (e .before) in
-    let l = lent s in
-    open-refused (s .args .size) (s .args .radius) l 1 (c .refused3 .result) (c .refused3 .ensures) (open-radius (tables.needs l) (s .args .size) (s .args .radius) (long e) (sized (p .before)) (sym (p .bad-radius .ensures) ∙ c .before .if3 .taken))
+    let s = start (p .before) in
+    open-refused (s .args .size) (s .args .radius) (lent s) (p .judge .result) (c .refused .result) (c .before .if1 .taken) (c .refused .ensures) (number p)
 
 slice-relend-prefix-clear : tie.Need-slice-relend-prefix-clear
 slice-relend-prefix-clear c = room c .0
@@ -106,16 +90,17 @@ slice-relend-prefix-clear-4 c = room (first (second (third (fourth c)))) .1 .1 .
 slice-aggregate-clear-4 : tie.Need-slice-aggregate-clear-4
 slice-aggregate-clear-4 c = let p = first (second (third (fourth (c .before)))) in sym (length-take-le pairPlaces (given p .pairs) (room p .1 .1 .1 .1 .0))
 
-returns-4 : tie.Need-returns-4
-returns-4 c =
+returns-2 : tie.Need-returns-2
+returns-2 c =
     let e = c .before .before in
     let d = fifth c .before .before in
     let b = fourth (fifth c) .before .before in
     let p = third (fourth (fifth c)) .before .before in
     let k = second (third (fourth (fifth c))) .before .before in
     let n = first (second (third (fourth (fifth c)))) in
-    let s = start (entry n .before) in
-    open-done (s .args .size) (s .args .radius) (lent s) (long (entry n)) (sized (n .before .before)) (sym (n .before .bad-radius .ensures) ∙ n .if3 .left)
+    let s = start (n .before .before) in
+    let q = passed n in
+    open-done (s .args .size) (s .args .radius) (lent s) (q .0) (q .1) (q .2)
     (k .clear .last .0) (p .clear2 .last .0) (b .clear-bytes .last .0) (d .clear3 .last .0) (e .clear4 .last .0)
     (k .clear .ensures) (p .clear2 .ensures) (b .clear-bytes .ensures) (d .clear3 .ensures) (e .clear4 .ensures)
 
@@ -125,13 +110,8 @@ open-spec =
     (tie.spec
     (λ c κs. search needs)
     (λ c κs. search needs)
+    (λ c κs. search needs)
     returns
-    (λ c κs. search needs)
-    (λ c κs. search needs)
-    returns-2
-    (λ c κs. search needs)
-    (λ c κs. search needs)
-    returns-3
     slice-relend-prefix-clear
     slice-aggregate-clear
     (λ c κs. search needs)
@@ -152,4 +132,4 @@ open-spec =
     (λ c. search needs)
     (λ c. search needs)
     (λ c. search needs)
-    returns-4)
+    returns-2)

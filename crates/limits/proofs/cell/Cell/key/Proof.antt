@@ -11,9 +11,6 @@ use Rattle.model.specs.Cell.{key}
 use Rattle.limits.proofs.cell.Cell.key.Statement.{statement}
 use Rattle.limits.proofs.cell.Cell.key.Tie as tie
 
-bias-requires : tie.Need-bias-requires
-bias-requires c κs = search needs
-
 -- the two coordinates, read back from their bits
 x-is : (c : tie.After-bias) → c .bias .result ≡ biased (c .before .before .args .self .x)
 x-is c = c .bias .ensures ∙ ap biased (toZ-ofZ w64 (c .before .before .args .self .x) (record { sfits = c .before .struct-told .given .0 .1 }))
@@ -27,9 +24,6 @@ x-below c = rw (x-is c) (biased-lt (c .before .before .args .self .x))
 mul-result : tie.Need-mul-result
 mul-result c = let h = x-below c in omega arith
 
-bias-requires-2 : tie.Need-bias-requires-2
-bias-requires-2 c κs = search needs
-
 add-result : tie.Need-add-result
 add-result c =
     let h = x-below (c .before .before) in
@@ -41,4 +35,4 @@ unfolding key
 returns c = rw (x-is (c .before .before), y-is c) refl
 
 pub key-spec : {M : Type 1} → statement M
-key-spec = tie.close (tie.spec bias-requires mul-result bias-requires-2 add-result returns)
+key-spec = tie.close (tie.spec (λ c κs. search needs) mul-result (λ c κs. search needs) add-result returns)

@@ -19,14 +19,8 @@ fits n h = subst (λ (z : ℤ). SFits w64 z) (sym (column-back n h)) (column-fit
 read : (n : ℕ) → n ≤ 2 ^ 32 → toZ w64 (ofZ w64 (toZ w64 n -ℤ pos 2147483648)) ≡ unbias n
 read n h = toZ-ofZ w64 _ (fits n h) ∙ column-back n h
 
-cast-t3 : tie.Need-cast-t3
-cast-t3 c = search needs
-
 sub-t4 : tie.Need-sub-t4
 sub-t4 c = fits (c .args .k / 4294967296) (omega arith)
-
-cast-t6 : tie.Need-cast-t6
-cast-t6 c = search needs
 
 sub-t7 : tie.Need-sub-t7
 sub-t7 c = fits (c .args .k % 4294967296) (omega arith)
@@ -35,4 +29,4 @@ returns : tie.Need-returns
 returns c = (read (c .args .k / 4294967296) (omega arith), read (c .args .k % 4294967296) (omega arith))
 
 pub of-key-spec : {M : Type 1} → statement M
-of-key-spec = tie.close (tie.spec cast-t3 sub-t4 cast-t6 sub-t7 returns)
+of-key-spec = tie.close (tie.spec (λ c. search needs) sub-t4 (λ c. search needs) sub-t7 returns)
