@@ -17,7 +17,7 @@ pub struct CornerStatus {
 }
 
 impl Corner {
-    pub fn bit(self) -> u8
+    pub(crate) fn bit(self) -> u8
         ensures { λ r. ⌜ r ≡ weight (dir self) ⌝ }
     {
         match self {

@@ -41,7 +41,8 @@ fn put_nine(
 ) -> usize
     requires { ⌜ (low + (4 * W + 4) < 2 ^ 64) × (n + 9 ≤ length (now out)) × (n + 9 ≤ length (now statuses)) ⌝ }
     ensures { λ r. ⌜ (r ≤ n + 9)
-        × Added (gathered (pickedAt low fresh (w .sw) (w .se) (w .nw) (w .ne)) 9) (now (out .entry)) (now (out .exit)) (now (statuses .entry)) (now (statuses .exit)) n r ⌝ }
+        × Added (gathered (pickedAt low fresh (w .sw) (w .se) (w .nw) (w .ne)) 9)
+        (now (out .entry)) (now (out .exit)) (now (statuses .entry)) (now (statuses .exit)) n r ⌝ }
 {
     let mut m = n;
     let mut d = 0;
