@@ -1,4 +1,4 @@
-//! The Rust's grid, ordered maps, behind document 01's refusals. A refused call answers its number and alters nothing.
+//! The Rust's grid, ordered maps, behind the refusals of RULES 4. A refused call answers its number and alters nothing.
 use crate::occupancy::{Cell, CornerStatus, Grid, SparseGrid};
 use crate::question::{Entry, Floor, Question};
 

@@ -1,4 +1,4 @@
-//! The Rust's `Visibility`, ordered maps, behind document 01's refusals. A refused call answers its number and alters nothing.
+//! The Rust's `Visibility`, ordered maps, behind the refusals of RULES 4. A refused call answers its number and alters nothing.
 use crate::judged::{
     bad_question, bad_size, changed, judge_batch, Changes, MOST_CELLS, MOST_COORDINATE,
 };

@@ -1,4 +1,4 @@
-//! The listing of a map file (document 01, 'Map file and listing'), over the Rust with ordered maps.
+//! The listing of a map file (RULES 6), over the Rust with ordered maps.
 use crate::judged::{bad_size, MOST_ENTRIES};
 use crate::judged_map::JudgedMap;
 use crate::map_files::{BATCH, END, ENTRY_BYTES, RADIUS, SIZE};

@@ -1,4 +1,4 @@
-//! Map files as bytes (document 01, 'Map file and listing'): good ones, at the limits, and damaged ones.
+//! Map files as bytes (RULES 5): good ones, at the limits, and damaged ones.
 use crate::judged::MOST_COORDINATE;
 use crate::layouts::{block, checkerboard, entries, islands, moved, racks, scattered, Layout};
 use crate::question::Entry;

@@ -1,5 +1,5 @@
 //! Lists of calls on a map, as programs replay them: the lines with what the Rust's own `Visibility`, ordered maps, answers
-//! behind document 01's refusals.
+//! behind the refusals of RULES 4.
 //!
 //! A line is a letter and its operands:
 //!

@@ -1,4 +1,4 @@
-//! What the Rust with ordered maps answers, behind document 01's refusals, in the console's words.
+//! What the Rust with ordered maps answers, behind the refusals of RULES 4, in the console's words.
 use crate::asked::Asked;
 use oracle::judged::Changes;
 use oracle::judged_map::{shift, JudgedMap};

@@ -1,4 +1,4 @@
-//! Why a call was refused (document 01's numbers).
+//! Why a call was refused (the numbers of RULES 4.1).
 use std::fmt;
 
 #[derive(Clone, Copy, Debug, PartialEq, Eq, PartialOrd, Ord)]

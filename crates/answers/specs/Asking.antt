@@ -1,4 +1,4 @@
--- What every call has in common that leaves the map as it is: its refusals, and the lists that it writes to lent places (document 01, 'Numbers that bound the work'). Definitions only.
+-- What every call has in common that leaves the map as it is: its refusals, and the lists that it writes to lent places (RULES 4.2, 2.2). Definitions only.
 use Prim.Native.Nat.{ℕ, suc}
 use mathlib.Core.Path.{_≡_}
 use mathlib.Core.Bool.{Bool, false}

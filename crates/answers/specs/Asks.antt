@@ -1,4 +1,4 @@
--- The question of four shapes, put to a map: the refusal that is due, the map that is held, and the answer (document 01; sparse_grid.rs). Definitions only.
+-- The question of four shapes, put to a map: the refusal that is due, the map that is held, and the answer (RULES 2.4; sparse_grid.rs). Definitions only.
 use Prim.Native.Nat.{ℕ, suc}
 use mathlib.Core.Path.{_≡_}
 use mathlib.Core.Bool.{true}

@@ -1,4 +1,4 @@
--- What is asked of a map's cells, as calls: the refusal that is due, the map that is held, and the answer (document 01; sparse_grid.rs, `is_occupied`, `occupied_cells`, `corners`). Definitions only.
+-- What is asked of a map's cells, as calls: the refusal that is due, the map that is held, and the answer (RULES 2.2; sparse_grid.rs, `is_occupied`, `occupied_cells`, `corners`). Definitions only.
 use Prim.Native.Nat.{ℕ}
 use mathlib.Core.Path.{_≡_}
 use mathlib.Core.Bool.{Bool, false}

@@ -1,4 +1,4 @@
--- A list of pairs as three columns of numbers, lesser cell, greater cell, blocker (document 01: a pair is told lesser cell first, with its blocker or none). Definitions only.
+-- A list of pairs as three columns of numbers, lesser cell, greater cell, blocker (RULES 2.2: a pair is told lesser cell first, with its blocker or none). Definitions only.
 use Prim.Native.Nat.{ℕ}
 use mathlib.Core.List.{List, [], _∷_}
 use Rattle.model.specs.Layer.{Pair}

@@ -1,4 +1,4 @@
--- One answer of a map: whether a cell is occupied (document 01). Definitions only.
+-- One answer of a map: whether a cell is occupied (RULES 2.4). Definitions only.
 use Prim.Native.Nat.{ℕ, suc}
 use mathlib.Core.Path.{_≡_}
 use mathlib.Core.Bool.{false}

@@ -1,4 +1,4 @@
--- The lists of points and pairs as calls on a map (document 01; occupancy/mod.rs, `iter_points`, `iter_edges`): the refusal that is due, the map that is held, the outputs. Definitions only.
+-- The lists of points and pairs as calls on a map (RULES 2.2; occupancy/mod.rs, `iter_points`, `iter_edges`): the refusal that is due, the map that is held, the outputs. Definitions only.
 use Prim.Native.Nat.{ℕ}
 use mathlib.Core.Path.{_≡_}
 use mathlib.Core.Bool.{false}

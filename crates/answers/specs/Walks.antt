@@ -1,4 +1,4 @@
--- Between functions: what a map's five tables need; what the walks over points and pairs are lent, and what they list: the model's `pairs`, a row for each point (document 01, all pairs and open pairs; occupancy/mod.rs, `iter_points`, `iter_edges`). Definitions only.
+-- Between functions: what a map's five tables need; what the walks over points and pairs are lent, and what they list: the model's `pairs`, a row for each point (RULES 2.2, all pairs and open pairs; occupancy/mod.rs, `iter_points`, `iter_edges`). Definitions only.
 use Prim.Native.Nat.{ℕ, _+_, _-_, _≤_}
 use mathlib.Core.Path.{_≡_}
 use mathlib.Core.List.{List, _∷_, _++_}

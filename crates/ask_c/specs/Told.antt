@@ -1,4 +1,4 @@
--- An answer as a struct for C: the refusal, and the cell or none (document 01). Definitions only.
+-- An answer as a struct for C: the refusal, and the cell or none (RULES 2.4). Definitions only.
 use Prim.Native.Nat.{ℕ}
 use mathlib.Core.Bool.{true, false}
 use mathlib.Core.List.{List}

@@ -1,4 +1,4 @@
--- Between functions: the number of blocks of some cells; of more than a map can have it counts none (document 01, 'Map file and listing'). Definitions only.
+-- Between functions: the number of blocks of some cells; of more than a map can have it counts none (RULES 1.2). Definitions only.
 use Prim.Native.Nat.{ℕ, _≤_, _<_}
 use mathlib.Core.Path.{_≡_}
 use mathlib.Core.List.{List}

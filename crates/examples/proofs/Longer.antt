@@ -34,7 +34,7 @@ pub answers-hold : AllNamed answers
 unfolding everything
 answers-hold = (tt, (tt, (tt, tt)))
 
--- Examples 9 and 10, which document 01 leaves to be run, hold too.
+-- Examples 9 and 10 of RULES 9.2, run.
 pub examples-run : All others
 unfolding everything
 examples-run = (tt, (tt, tt))

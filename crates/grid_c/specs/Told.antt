@@ -1,4 +1,4 @@
--- For floors, at no border: a question and its answer as numbers, for C: the refusal, or the cell's key, or 0 for none (document 01). Definitions only.
+-- For floors, at no border: a question and its answer as numbers, for C: the refusal, or the cell's key, or 0 for none (RULES 2.4). Definitions only.
 use Prim.Native.Nat.{ℕ, suc}
 use mathlib.Core.Bool.{true}
 use mathlib.Core.List.{List}

@@ -1,4 +1,4 @@
--- A map as its struct and its lent tables hold it (document 01: each pair stored under both points; limits and needs). Definitions only.
+-- A map as its struct and its lent tables hold it (RULES 2.1). Definitions only.
 use Prim.Native.Nat.{ℕ}
 use mathlib.Core.Path.{_≡_}
 use mathlib.Core.List.{List, [], _∷_}

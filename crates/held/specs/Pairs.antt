@@ -1,4 +1,4 @@
--- The table of pairs (document 01: each pair stored under both points). Definitions only.
+-- The table of pairs (RULES 2.1: each pair stored under both points). Definitions only.
 use Prim.Native.Nat.{ℕ, _+_, _*_, _<_}
 use mathlib.Core.Path.{_≡_}
 use mathlib.Core.List.{List}

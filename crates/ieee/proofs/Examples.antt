@@ -8,19 +8,19 @@ use Rattle.ieee.specs.Whole.{floorZ, ceilZ}
 use Rattle.ieee.specs.Yard.{shiftF, lowF, highF, inYard}
 use Rattle.ieee.specs.Root.{rootF}
 
--- document 01, example 1: r = 0 and 128 give s = 1; r = 129 gives 2
+-- RULES 9.2, example 1: r = 0 and 128 give s = 1; r = 129 gives 2
 shifts : (ceilZ (shiftF (pow2 8) (ofInt binary64 (pos 0))) ≡ pos 1) × (ceilZ (shiftF (pow2 8) (ofInt binary64 (pos 128))) ≡ pos 1)
     × (ceilZ (shiftF (pow2 8) (ofInt binary64 (pos 129))) ≡ pos 2)
 unfolding ceilZ shiftF ofInt
 shifts = (refl, refl, refl)
 
--- document 01, example 2: coordinate -1 is in cell -1, 0 in 0, 256 in 1
+-- RULES 9.2, example 2: coordinate -1 is in cell -1, 0 in 0, 256 in 1
 cells : (floorZ (div binary64 (ofInt binary64 (negsuc 0)) (pow2 8)) ≡ negsuc 0) × (floorZ (div binary64 (ofInt binary64 (pos 0)) (pow2 8)) ≡ pos 0)
     × (floorZ (div binary64 (ofInt binary64 (pos 256)) (pow2 8)) ≡ pos 1)
 unfolding floorZ div ofInt
 cells = (refl, refl, refl)
 
--- document 01, example 8: at the centre of cell 0, width 256 covers cell 0 only, width 258 covers -1 to 1
+-- RULES 9.2, example 8: at the centre of cell 0, width 256 covers cell 0 only, width 258 covers -1 to 1
 squares : (floorZ (lowF (pow2 8) (ofInt binary64 (pos 128)) (ofInt binary64 (pos 0))) ≡ pos 0) × (ceilZ (highF (pow2 8) (ofInt binary64 (pos 128)) (ofInt binary64 (pos 0))) ≡ pos 1)
     × (floorZ (lowF (pow2 8) (ofInt binary64 (pos 129)) (ofInt binary64 (pos 0))) ≡ negsuc 0) × (ceilZ (highF (pow2 8) (ofInt binary64 (pos 129)) (ofInt binary64 (pos 0))) ≡ pos 2)
 unfolding floorZ ceilZ lowF highF ofInt

@@ -1,4 +1,4 @@
--- The yard class (document 01): cell size a power of two from 2 to 1,024, radius whole. The float steps of a centre, of the square of width 2 r at it and of the shift,
+-- The yard class (RULES 1.12, 8.4): cell size a power of two from 2 to 1,024, radius whole. The float steps of a centre, of the square of width 2 r at it and of the shift,
 -- as the Rust takes them, and the same in whole numbers with flooring division. Definitions only; `proofs/YardLaws.antt` shows that the two agree in the class.
 use Prim.Native.Nat.{ℕ, zero, suc, _+_, _*_, _/_}
 use mathlib.Core.Bool.{Bool, false, _&&_, _||_}
@@ -41,7 +41,7 @@ unfoldable pub shiftF : Float → Float → Float
 unfolding add div
 shiftF c r = add binary64 (div binary64 r c) half
 
--- ---- the class, as tests on f64 values: c is 2, 4, .. or 2 ^ k, and r is its own floor; with what every accepted radius has (document 01, the bounds): not below zero, shift at most 64
+-- ---- the class, as tests on f64 values: c is 2, 4, .. or 2 ^ k, and r is its own floor; with what every accepted radius has (RULES 3.1): not below zero, shift at most 64
 -- (the model's `maxShift`, Limits.antt, which is above this crate)
 unfoldable pub isPower : ℕ → Float → Bool
 isPower zero c = false

@@ -1,4 +1,4 @@
--- The listing that was written to a descriptor (document 01, 'Map file and listing': one program prints it). No contract can speak of what is written; this speaks of the lent buffer whose front it is. Definitions only.
+-- The listing that was written to a descriptor (RULES 6.3). No contract can speak of what is written; this speaks of the lent buffer whose front it is. Definitions only.
 use Prim.Native.Nat.{ℕ}
 use mathlib.Core.List.{List}
 use Rattle.intake.specs.Shown.{ShownInput}

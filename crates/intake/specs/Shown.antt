@@ -1,4 +1,4 @@
--- The listing of the map file that a descriptor gives, in a lent buffer (document 01, 'Map file and listing'). Definitions only.
+-- The listing of the map file that a descriptor gives, in a lent buffer (RULES 6). Definitions only.
 use Prim.Native.Nat.{ℕ, _^_, _<_}
 use mathlib.Core.Path.{_≡_}
 use mathlib.Core.Bool.{true, false}

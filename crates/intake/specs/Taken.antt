@@ -1,4 +1,4 @@
--- Between functions: the map that a descriptor gives, in lent tables (document 01, 'Map file and listing'). What bytes come is open; the rest is the model's reading of them. Definitions only.
+-- Between functions: the map that a descriptor gives, in lent tables (RULES 5). What bytes come is open; the rest is the model's reading of them. Definitions only.
 use Prim.Native.Nat.{ℕ, _^_, _<_}
 use mathlib.Core.Path.{_≡_}
 use mathlib.Core.Bool.{true, false}

@@ -1,4 +1,4 @@
-// What is refused before a batch is tried (document 01, refusals 1, 3, 4 and 5).
+// What is refused before a batch is tried (RULES 4.1: refusals 1, 3, 4 and 5).
 use sizes::BATCH;
 use sizes::LEAST_COORDINATE;
 use sizes::MOST_COORDINATE;

@@ -1,4 +1,4 @@
-// What is refused of a radius (document 01, refusal 2), its shift and its reach.
+// What is refused of a radius (RULES 4.1: refusal 2), its shift and its reach.
 use sizes::SHIFT;
 ghost use mathlib.Core.Path.{_≡_};
 ghost use Rattle.model.specs.Cell.{reach};

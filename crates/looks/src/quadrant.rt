@@ -1,4 +1,4 @@
-// Which cells a point may see (document 01, 'Points').
+// Which cells a point may see (RULES 1.7).
 use corner::bits::Corner;
 use corner::bits::CornerStatus;
 use sizes::COLUMN;

@@ -1,4 +1,4 @@
--- Between functions: a field of a map file before its value is taken, and its value as numbers (document 01, 'Map file and listing'; the model's MapFile). Definitions only.
+-- Between functions: a field of a map file before its value is taken, and its value as numbers (RULES 5; the model's MapFile). Definitions only.
 use Prim.Native.Nat.{ℕ, zero, suc, _+_, _*_, _/_, _≤_, _<_}
 use mathlib.Core.Path.{_≡_}
 use mathlib.Core.Bool.{cond}

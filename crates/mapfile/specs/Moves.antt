@@ -1,4 +1,4 @@
--- Between functions: the states of a reader (document 01, 'Map file and listing': fields are numbered from 0). Definitions only.
+-- Between functions: the states of a reader (RULES 5.1: fields count from 0). Definitions only.
 use Prim.Native.Nat.{_+_, _%_, _^_}
 use lib.Ieee.{Float}
 use Rattle.mapfile.specs.declared.head.Expected.{Expected}

@@ -1,4 +1,4 @@
--- Between functions: one field of a map file taken over a state, into a map's lent tables (document 01, 'Map file and listing'; the model's `oneField`). Definitions only.
+-- Between functions: one field of a map file taken over a state, into a map's lent tables (RULES 5; the model's `oneField`). Definitions only.
 use Prim.Native.Nat.{ℕ, suc, _*_, _/_, _^_, _≤_, _<_}
 use mathlib.Core.Path.{_≡_}
 use mathlib.Core.Bool.{true, false, cond}

@@ -1,4 +1,4 @@
--- Between functions: a file that is read through a window: the bytes that were read already and not yet taken (document 01, 'Map file and listing'; the model's MapFile). Definitions only.
+-- Between functions: a file that is read through a window: the bytes that were read already and not yet taken (RULES 5; the model's MapFile). Definitions only.
 use Prim.Native.Nat.{ℕ, _≤_}
 use mathlib.Core.Path.{_≡_}
 use mathlib.Core.Logic.{_⊎_}

@@ -1,4 +1,4 @@
-// A field's tag and length, and whether its value is there (document 01: a tag before its length, a length before its value).
+// A field's tag and length, and whether its value is there (RULES 5.2: a tag before its length, a length before its value).
 use crate::value::bad_flags;
 use crate::value::wide;
 use sizes::BATCH;

@@ -1,4 +1,4 @@
--- The examples of document 01, computed. Assumes nothing.
+-- The worked examples (RULES 9.2), computed. Assumes nothing.
 use Prim.Native.Nat.{ℕ, suc}
 use mathlib.Core.Path.{_≡_, refl}
 use lib.Dec.{leb·suc-suc}

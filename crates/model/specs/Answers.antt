@@ -1,4 +1,4 @@
--- What may be asked of a map (document 01; occupancy/mod.rs). Every list is ascending, but for the neighbours'. Definitions only.
+-- What may be asked of a map (RULES 2.2, 2.5; occupancy/mod.rs). Every list ascends. Definitions only.
 use Prim.Native.Nat.{ℕ}
 use mathlib.Core.Bool.{Bool, true, false, not, cond, _&&_}
 use mathlib.Core.List.{List, [], _∷_}
@@ -83,7 +83,7 @@ fromElsewhere m k =
     let sweep = tests (m .size) (m .layer .radius) .sweep (m .cells) k in
     keys (sift (λ q. sees k (q .0) (q .1 .bits) && free (sweep (q .0) .cell)) (freePoints m))
 
--- the rows of the Rust's edge table are exactly the points, so 'has a row' is 'is a point' (crate `edge_rows`, `opened-rows`)
+-- the rows of the Rust's edge table are exactly the points, so 'has a row' is 'is a point' (crate `no_panics`, `opened-rows`)
 unfoldable pub visibleFrom : Map → ℕ → List ℕ
 visibleFrom m k =
     let a = fromPoint m k in

@@ -1,4 +1,4 @@
--- A batch on the occupied cells: what is confirmed, what is occupied afterwards, which statuses altered (document 01, 'Batch'; sparse_grid.rs, `change_cells`). Definitions only.
+-- A batch on the occupied cells: what is confirmed, what is occupied afterwards, which statuses altered (RULES 1.9; sparse_grid.rs, `change_cells`). Definitions only.
 use Prim.Native.Nat.{ℕ}
 use mathlib.Core.Bool.{Bool, true, false, cond, _||_, Bool·beq}
 use mathlib.Core.List.{List, [], _∷_, _++_}

@@ -1,4 +1,4 @@
--- Blocks: a block is a largest set of occupied cells joined through shared sides (document 01, 'Map file and listing'). What that means, and the list of the blocks. Definitions only.
+-- Blocks: a block is a largest set of occupied cells joined through shared sides (RULES 1.2). What that means, and the list of the blocks. Definitions only.
 use Prim.Native.Nat.{ℕ, _+_, _<_}
 use mathlib.Core.Logic.{_≢_}
 use mathlib.Core.Bool.{Bool, false, not, _||_}

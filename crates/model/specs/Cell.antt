@@ -79,7 +79,7 @@ eight k = (k - W - 1) ∷ (k - W) ∷ (k - W + 1) ∷ (k - 1) ∷ (k + 1) ∷ (k
 abbrev pub apart : ℕ → ℕ → ℕ
 apart a b = (a - b) + (b - a)
 
--- the reach of a shift (document 01, 'The floor's rules')
+-- the reach of a shift (RULES 1.4)
 abbrev pub reach : ℕ → ℕ
 reach s = s - 1
 

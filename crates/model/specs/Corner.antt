@@ -1,4 +1,4 @@
--- Corners of occupied cells, their statuses, and the visible quadrant (document 01, 'The floor's rules'; occupancy/mod.rs, `CornerStatus`). Definitions only.
+-- Corners of occupied cells, their statuses, and the visible quadrant (RULES 1.3, 1.7; occupancy/mod.rs, `CornerStatus`). Definitions only.
 use Prim.Native.Nat.{ℕ, _+_}
 use mathlib.Core.Bool.{Bool, false, not, cond, _&&_, _||_, Bool·beq}
 use mathlib.Core.List.{List, [], _∷_}

@@ -1,4 +1,4 @@
--- The floor examples of document 01, all at c = 256, as tests of the definitions. `table` has those that are marked P. proofs/Examples.antt shows that all pass.
+-- The worked examples (RULES 9.2), all at c = 256, as tests of the definitions. `table` has those that are marked P. proofs/Examples.antt shows that all pass.
 use Prim.Native.Nat.{ℕ}
 use mathlib.Core.Path.{_≡_}
 use mathlib.Core.Bool.{Bool, true, false, not, cond, _&&_}
@@ -101,7 +101,7 @@ twoCells = batch (fill (pos 0) (pos 0) ∷ fill (pos 2) (pos 2) ∷ []) ∷ []
 unfoldable pub oneFreed : List Op
 oneFreed = twoCells ++ (batch (clear (pos 0) (pos 0) ∷ []) ∷ [])
 
--- ---- the table: each line has the number that document 01 gives it
+-- ---- the table: each line has its number in RULES 9.2
 abbrev pub table : List (ℕ × Type 0)
 table =
     (1, T (eqb (shiftOf c (num (pos 0))) 1 && eqb (shiftOf c (num (pos 128))) 1 && eqb (shiftOf c (num (pos 129))) 2))

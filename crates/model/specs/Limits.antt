@@ -1,4 +1,4 @@
--- The numbers that bound the work (document 01), each named once. Definitions only.
+-- The limits (RULES 3.1), each named once. Definitions only.
 use Prim.Native.Nat.{ℕ, _+_, _-_, _*_, _/_}
 use mathlib.Core.Bool.{false}
 use lib.IntN.{negsuc}

@@ -1,4 +1,4 @@
--- The listing: the text, as bytes, that the program prints for the bytes of a map file (document 01, 'Map file and listing'). Definitions only.
+-- The listing: the text, as bytes, that the program prints for the bytes of a map file (RULES 6). Definitions only.
 use Prim.Native.Nat.{ℕ, zero, suc, _+_, _/_, _%_}
 use Prim.Native.String.{String, [] as []ˢ, _∷_ as _∷ˢ_}
 use Prim.Native.Char.{code}

@@ -1,4 +1,4 @@
--- A map: its cell size, its occupied cells, one layer; opening, batches, radius changes (document 01; occupancy/mod.rs, `Visibility`). Definitions only.
+-- A map: its cell size, its occupied cells, one layer; opening, batches, radius changes (RULES 1.13, 2.3; occupancy/mod.rs, `Visibility`). Definitions only.
 use Prim.Native.Nat.{ℕ}
 use mathlib.Core.Bool.{Bool}
 use mathlib.Core.List.{List, [], _∷_}

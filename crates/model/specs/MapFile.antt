@@ -1,4 +1,4 @@
--- The map file: bytes (numbers below 256) to a map or a refusal with its field (document 01, 'Map file and listing'), as one field after another over a state. Definitions only.
+-- The map file: bytes (numbers below 256) to a map or a refusal with its field (RULES 5), as one field after another over a state. Definitions only.
 use Prim.Native.Nat.{ℕ, zero, suc, _+_, _-_, _*_, _/_, _%_}
 use mathlib.Core.Bool.{Bool, false, not, cond, _&&_, _||_}
 use mathlib.Core.List.{List, [], _∷_}

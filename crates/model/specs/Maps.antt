@@ -1,4 +1,4 @@
--- Maps and sets of keys, as lists ascending by key: the BTreeMap and BTreeSet of the oracle (document 01, 'Which text decides'). Definitions only.
+-- Maps and sets of keys, as lists ascending by key: the BTreeMap and BTreeSet of the oracle (RULES 9.1). Definitions only.
 -- `get` takes the first entry and `del` takes all away, so that their laws ask for no order.
 use Prim.Native.Nat.{ℕ, suc, _≤_}
 use mathlib.Core.Bool.{Bool, true, false, cond, _||_}

@@ -1,4 +1,4 @@
--- Points and vectors of floats (nalgebra's Point2 and Vector2), step for step: a two-term dot product is the x product plus the y product (document 01). Definitions only.
+-- Points and vectors of floats (nalgebra's Point2 and Vector2), step for step: a two-term dot product is the x product plus the y product (RULES 8.1). Definitions only.
 use lib.IntN.{ℤ, _+ℤ_}
 use lib.Ieee.{Float, binary64, add, sub, mul, div, neg, ofInt, ofBits}
 use Prim.Native.Nat.{ℕ}

@@ -1,4 +1,4 @@
--- Refusals 1 to 9, their order, and runs with refused operations among them (document 01, 'Numbers that bound the work'). Definitions only.
+-- Refusals 1 to 9, their order, and runs with refused operations among them (RULES 4). Definitions only.
 use Prim.Native.Nat.{ℕ, zero, suc, _+_}
 use mathlib.Core.Bool.{Bool, true, false, not, cond, _&&_, _||_}
 use mathlib.Core.List.{List, [], _∷_}

@@ -150,7 +150,7 @@ sweepTest c C p0 p1 width =
     let short = pointTest c C p0 in
     cond (lt (norm (minus p1 p0)) tiny) short long
 
--- ---- one question with its shape and that shape's own lengths (document 01, 'Forms that stand in the way')
+-- ---- one question with its shape and that shape's own lengths (RULES 2.4)
 pub data Question : Type 0 where
   point : Pt → Question
   square : Pt → Float → Question

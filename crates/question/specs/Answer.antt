@@ -1,4 +1,4 @@
--- The answer to a question as a struct: the refusal, and the cell or none (document 01, the paper's values). Definitions only.
+-- The answer to a question as a struct: the refusal, and the cell or none (RULES 2.4). Definitions only.
 use Prim.Native.Nat.{ℕ}
 use mathlib.Core.Option.{Option, none, some}
 use lib.IntN.{ℤ}

@@ -12,7 +12,7 @@ use lib.Ieee.{Float, binary64, mul, le, lt}
 use Rattle.ieee.specs.Constants.{nought, pow2}
 use Rattle.ieee.specs.Whole.{unbias}
 use Rattle.ieee.proofs.Monotone.{le-trans, le-lt}
-use Rattle.model.specs.Cell.{col, row}
+use Rattle.model.specs.Cell.{W, col, row}
 use Rattle.model.specs.Plane.{Pt, lowCorner}
 use Rattle.model.specs.Segment.{passesNear}
 use Rattle.segment.specs.Many.{inSpan, inSpans, prepared, Ready}
@@ -82,7 +82,7 @@ module _ (side a b u l size : Float) (fa : Small a) (fb : Small b) (fu : Small u
       before : leb (sp .low) n ≡ false → Aside side a b u l (edgeOf size n)
       before e =
           let k : n < sp .low = leb-false (sp .low) n e in
-          let r : sp .low < 4294967296 = i .range in
+          let r : sp .low < W = i .range in
           let m : sp .low - 1 ≤ 2 ^ 32 = omega arith in
           let d : n ≤ sp .low - 1 = omega arith in
           let p : 0 < sp .low = omega arith in

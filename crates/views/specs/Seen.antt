@@ -1,4 +1,4 @@
--- What is seen from the cell (x, y), and the cells beside it that can be reached, as calls on a map (document 01; occupancy/mod.rs, `calculate_visibility`, `neighbors`). Definitions only.
+-- What is seen from the cell (x, y), and the cells beside it that can be reached, as calls on a map (RULES 2.5; occupancy/mod.rs, `calculate_visibility`, `neighbors`). Definitions only.
 use Prim.Native.Nat.{ℕ, _+_}
 use mathlib.Core.Path.{_≡_}
 use mathlib.Core.Bool.{false, _||_}

@@ -1,4 +1,4 @@
--- A batch on a map, whole: its refusals, its answer, and every lent table afterwards (document 01, refusals and their order; occupancy/mod.rs, `Visibility::change_cells`). Definitions only.
+-- A batch on a map, whole: its refusals, its answer, and every lent table afterwards (RULES 2.3, 7.1, 4; occupancy/mod.rs, `Visibility::change_cells`). Definitions only.
 use Prim.Native.Nat.{ℕ, suc, _<_}
 use mathlib.Core.Path.{_≡_}
 use mathlib.Core.Logic.{_⊎_}

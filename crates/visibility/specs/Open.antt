@@ -1,4 +1,4 @@
--- Opening a map (document 01, 'Numbers that bound the work': opening starts empty, a refused one gives a map that is all zero). Definitions only.
+-- Opening a map (RULES 2.2, 4.4: opening starts empty, a refused one gives a map that is all zero). Definitions only.
 use Prim.Native.Nat.{ℕ, suc}
 use mathlib.Core.Path.{_≡_}
 use lib.Ieee.{Float}

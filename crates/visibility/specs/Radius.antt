@@ -1,4 +1,4 @@
--- Changing the radius of a map (document 01, refusals and their order; occupancy/mod.rs, `change_agent_radius`). Definitions only.
+-- Changing the radius of a map (RULES 7.2, 4; occupancy/mod.rs, `change_agent_radius`). Definitions only.
 use Prim.Native.Nat.{ℕ, suc}
 use mathlib.Core.Path.{_≡_}
 use mathlib.Core.Logic.{_⊎_}

@@ -1,4 +1,4 @@
-// The refusal 9 of a map's tables (document 01).
+// The refusal 9 of a map's tables (RULES 2.1, 4.1).
 use sizes::CELLS;
 use sizes::PAIRS;
 use sizes::POINTS;

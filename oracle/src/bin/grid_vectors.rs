@@ -1,5 +1,5 @@
 //! Writes the vectors that the program `grid_vectors` replays: `stdin` (floors, batches and questions) and `stdout`
-//! (the same with the answers of the Rust's own `SparseGrid`, ordered maps, behind document 01's refusals), into the
+//! (the same with the answers of the Rust's own `SparseGrid`, ordered maps, behind the refusals of RULES 4), into the
 //! folder that is its one argument. The list is the same on every run. Standard error tells how many lines there are of
 //! each kind, and how they were answered.
 //!

@@ -138,7 +138,7 @@ fn see(list: &mut MapList, cell: Cell) {
 
 fn note_seen(list: &mut MapList, map: &JudgedMap, cell: Cell, seen: &[Cell]) {
     let points = map.rust().debug_points();
-    // the Rust looks for a row of pairs, document 01 for a point
+    // the Rust looks for a row of pairs, the rules (2.5) for a point
     assert!(map.rust().debug_edges().keys().eq(points.keys()));
     if let Some((blocker, _)) = points.get(&cell) {
         let blocked = seen.iter().any(|p| points[p].0.is_some());

@@ -175,7 +175,7 @@ fn tell(list: &mut MapList, step: Step) {
     }
 }
 
-// Document 01's own maps, and others whose blockers are known.
+// The maps of RULES 9.2, and others whose blockers are known.
 
 fn blocker_of(list: &MapList, p: [i64; 2], q: [i64; 2]) -> Option<Option<Cell>> {
     let rows = list.map.as_ref()?.rust().debug_edges();

@@ -4,18 +4,12 @@ use native.Mathlib.Omega.{arith}
 use Rattle.map_vectors.proofs.list.write_pairs.Statement.{statement}
 use Rattle.map_vectors.proofs.list.write_pairs.Tie as tie
 
-abbrev Inv-loop : tie.InvT-loop
-Inv-loop lesser greater blocks count i₀ t6 i = Unit {0}
-
-abbrev μ-loop : tie.MeasureT-loop
-μ-loop lesser greater blocks count i₀ t6 i = count - i
-
 pub write-pairs-spec : {M : Type 1} → statement M
 write-pairs-spec =
     tie.close
     (tie.spec
-    Inv-loop
-    μ-loop
+    (λ _ _ _ _ _ _ _. Unit {0})
+    (λ _ _ _ count _ _ i. count - i)
     (λ c. tt)
     (λ c. tt)
     (λ c. omega arith)

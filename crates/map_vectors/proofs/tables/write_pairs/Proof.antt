@@ -4,13 +4,8 @@ use native.Mathlib.Omega.{arith}
 use Rattle.map_vectors.proofs.tables.write_pairs.Statement.{statement}
 use Rattle.map_vectors.proofs.tables.write_pairs.Tie as tie
 
-abbrev Inv-loop : tie.InvT-loop
-Inv-loop count points pairs i₀ i = Unit {0}
-
-abbrev μ-loop : tie.MeasureT-loop
-μ-loop count points pairs i₀ i = count - i
-
 pub write-pairs-spec : {M : Type 1} → statement M
 write-pairs-spec =
     tie.close
-    (tie.spec Inv-loop μ-loop (λ c. tt) (λ c κs. omega arith) (λ c. omega arith) (λ c. omega arith) (λ c. tt) (λ c. tt))
+    (tie.spec (λ _ _ _ _ _. Unit {0})
+    (λ count _ _ _ i. count - i) (λ c. tt) (λ c κs. omega arith) (λ c. omega arith) (λ c. omega arith) (λ c. tt) (λ c. tt))

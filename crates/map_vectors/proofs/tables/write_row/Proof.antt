@@ -4,18 +4,12 @@ use native.Mathlib.Omega.{arith}
 use Rattle.map_vectors.proofs.tables.write_row.Statement.{statement}
 use Rattle.map_vectors.proofs.tables.write_row.Tie as tie
 
-abbrev Inv-loop : tie.InvT-loop
-Inv-loop i count points pairs j₀ j = Unit {0}
-
-abbrev μ-loop : tie.MeasureT-loop
-μ-loop i count points pairs j₀ j = count - j
-
 pub write-row-spec : {M : Type 1} → statement M
 write-row-spec =
     tie.close
     (tie.spec
-    Inv-loop
-    μ-loop
+    (λ _ _ _ _ _ _. Unit {0})
+    (λ _ count _ _ _ j. count - j)
     (λ c. tt)
     (λ c. omega arith)
     (λ c. omega arith)

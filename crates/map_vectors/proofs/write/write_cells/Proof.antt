@@ -4,18 +4,12 @@ use native.Mathlib.Omega.{arith}
 use Rattle.map_vectors.proofs.write.write_cells.Statement.{statement}
 use Rattle.map_vectors.proofs.write.write_cells.Tie as tie
 
-abbrev Inv-loop : tie.InvT-loop
-Inv-loop cells count i₀ i = Unit {0}
-
-abbrev μ-loop : tie.MeasureT-loop
-μ-loop cells count i₀ i = count - i
-
 pub write-cells-spec : {M : Type 1} → statement M
 write-cells-spec =
     tie.close
     (tie.spec
-    Inv-loop
-    μ-loop
+    (λ _ _ _ _. Unit {0})
+    (λ _ count _ i. count - i)
     (λ c. tt)
     (λ c. tt)
     (λ c. omega arith)

@@ -4,18 +4,12 @@ use native.Mathlib.Omega.{arith}
 use Rattle.map_vectors.proofs.write.write_points.Statement.{statement}
 use Rattle.map_vectors.proofs.write.write_points.Tie as tie
 
-abbrev Inv-loop : tie.InvT-loop
-Inv-loop count points statuses blockers i₀ i = Unit {0}
-
-abbrev μ-loop : tie.MeasureT-loop
-μ-loop count points statuses blockers i₀ i = count - i
-
 pub write-points-spec : {M : Type 1} → statement M
 write-points-spec =
     tie.close
     (tie.spec
-    Inv-loop
-    μ-loop
+    (λ _ _ _ _ _ _. Unit {0})
+    (λ count _ _ _ _ i. count - i)
     (λ c. tt)
     (λ c. tt)
     (λ c. omega arith)

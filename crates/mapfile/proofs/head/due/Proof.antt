@@ -1,4 +1,4 @@
--- `fields::head::due`: the tests in their order. Assumes nothing.
+-- `mapfile::head::due`: the tests in their order. Assumes nothing.
 use Prim.Native.Nat.{_/_}
 use mathlib.Core.Path.{_≡_, sym, _∙_}
 use mathlib.Core.Logic.{⊎-elim}

@@ -1,4 +1,4 @@
--- `fields::head::fitting`: the lengths of each tag. Assumes nothing.
+-- `mapfile::head::fitting`: the lengths of each tag. Assumes nothing.
 use Rattle.mapfile.proofs.HeadLaws.{fits-batch, fits-end, fits-float}
 use Rattle.mapfile.proofs.head.fitting.Statement.{statement}
 use Rattle.mapfile.proofs.head.fitting.Tie as tie

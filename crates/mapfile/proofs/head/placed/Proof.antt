@@ -1,4 +1,4 @@
--- `fields::head::placed`: the tags of each place. Assumes nothing.
+-- `mapfile::head::placed`: the tags of each place. Assumes nothing.
 use mathlib.Core.Path.{refl}
 use borrow.Author.Needs.{needs}
 use borrow.Author.Tests.{eq-eqb, ne-eqb}

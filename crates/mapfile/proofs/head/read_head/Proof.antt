@@ -1,4 +1,4 @@
--- `fields::head::read_head`: the tag before the length, the length before the value. Assumes nothing.
+-- `mapfile::head::read_head`: the tag before the length, the length before the value. Assumes nothing.
 use native.Mathlib.Omega.{arith}
 use mathlib.Core.Path.{_≡_, sym, _∙_}
 use borrow.Author.Tests.{not-false, not-true}

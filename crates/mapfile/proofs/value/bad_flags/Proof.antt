@@ -1,4 +1,4 @@
--- `fields::value::bad_flags`: the entries passed have good flags. Assumes nothing.
+-- `mapfile::value::bad_flags`: the entries passed have good flags. Assumes nothing.
 use Prim.Native.Nat.{_-_}
 use native.Mathlib.Omega.{arith}
 use lib.ListN.{length}

@@ -1,4 +1,4 @@
--- `fields::value::float_at`: what the bytes not yet read make of the pattern so far stays the pattern. Assumes nothing.
+-- `mapfile::value::float_at`: what the bytes not yet read make of the pattern so far stays the pattern. Assumes nothing.
 use Prim.Native.Nat.{_-_, _^_, _≤_, _<_}
 use native.Mathlib.Omega.{arith}
 use mathlib.Core.Path.{ap, _∙_}

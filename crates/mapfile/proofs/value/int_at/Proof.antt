@@ -1,4 +1,4 @@
--- `fields::value::int_at`: four bytes, and the sign. Assumes nothing.
+-- `mapfile::value::int_at`: four bytes, and the sign. Assumes nothing.
 use Prim.Native.Nat.{ℕ, _+_, _*_, _^_, _<_}
 use native.Mathlib.Omega.{arith}
 use mathlib.Core.Path.{_≡_}

@@ -1,4 +1,4 @@
--- `vectors::change::enter`: the three places lie in the batch, or nothing is written. Assumes nothing.
+-- `replay::change::enter`: the three places lie in the batch, or nothing is written. Assumes nothing.
 use Prim.Native.Nat.{_+_, _≤_, _<_}
 use native.Mathlib.Omega.{arith}
 use lib.ListN.{length, length-set}

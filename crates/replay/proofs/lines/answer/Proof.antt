@@ -1,4 +1,4 @@
--- `vectors::answer` is safe and ends: the numbers that are left fall. Assumes nothing.
+-- `replay::lines::answer` is safe and ends: the numbers that are left fall. Assumes nothing.
 use Prim.Native.Nat.{_-_}
 use native.Mathlib.Omega.{arith}
 use mathlib.Core.Path.{refl, sym}

@@ -1,4 +1,4 @@
--- `extent::search::SearchF64::check_max` meets its contract: the shared walk, at `greatest`. Assumes nothing.
+-- `segment::search::SearchF64::check_max` meets its contract: the shared walk, at `greatest`. Assumes nothing.
 use Rattle.model.specs.Segment.{checkMax}
 use Rattle.segment.specs.Search.{held, kept}
 use Rattle.segment.proofs.SearchWalk.{stores}

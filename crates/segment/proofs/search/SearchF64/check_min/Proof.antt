@@ -1,4 +1,4 @@
--- `extent::search::SearchF64::check_min` meets its contract: the shared walk, at `least`. Assumes nothing.
+-- `segment::search::SearchF64::check_min` meets its contract: the shared walk, at `least`. Assumes nothing.
 use Rattle.model.specs.Segment.{checkMin}
 use Rattle.segment.specs.Search.{held, kept}
 use Rattle.segment.proofs.SearchWalk.{stores}

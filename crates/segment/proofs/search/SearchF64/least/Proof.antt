@@ -1,4 +1,4 @@
--- `extent::search::SearchF64::least` meets its contract. Assumes nothing.
+-- `segment::search::SearchF64::least` meets its contract. Assumes nothing.
 use mathlib.Core.Path.{refl}
 use borrow.Author.Needs.{needs}
 use Rattle.segment.proofs.search.SearchF64.least.Statement.{statement}

@@ -1,4 +1,4 @@
--- `extent::search::SearchF64::new` meets its contract. Assumes nothing.
+-- `segment::search::SearchF64::new` meets its contract. Assumes nothing.
 use mathlib.Core.Path.{refl}
 use lib.Ieee.{ofBits}
 use Rattle.segment.proofs.search.SearchF64.new.Statement.{statement}
