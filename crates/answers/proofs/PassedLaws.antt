@@ -2,7 +2,7 @@
 use Prim.Native.Nat.{ℕ, _≤_}
 use mathlib.Core.Path.{_≡_, refl, sym, ap, _∙_}
 use mathlib.Core.Bool.{Bool, false, _||_}
-use mathlib.Core.List.{List, [], _∷_}
+use mathlib.Core.List.{List, [], _∷_, _++_}
 use lib.Dec.{ltb}
 use borrow.Author.Tests.{ltb-false}
 use Rattle.model.proofs.DueLaws as model
@@ -13,6 +13,7 @@ use Rattle.limits.specs.Words.{firstOn, wordOn}
 use Rattle.held.proofs.RoomLaws as tables
 use Rattle.held.specs.declared.map.Map.{Map}
 use Rattle.answers.specs.Asking.{onMap, refuseMap}
+use Rattle.answers.specs.Walks.{lacking, tableNeeds}
 
 -- no table is short, and there are no more cells and points than there may be
 pub passed : (s : Bool) (m : Map) (more : Dues) → refuseMap s m more ≡ 0 → (s ≡ false) × (m .cells ≤ maxCells) × (m .points ≤ maxPoints)
@@ -50,7 +51,7 @@ asked-as n s s′ m w more e f g = judged (onMap s′ m more) e (rw (f, g) (both
 pub list-as : (n : ℕ) (s s′ : Bool) (m : Map) → n ≡ said s m 0 → s ≡ s′ → n ≡ refuseMap s′ m []
 list-as n s s′ m e f = asked-as n s s′ m 0 [] e f (none-added 0)
 
--- ---- a lent length with its need, before the rest
+-- ---- lent lengths with their needs, before the rest
 pub long-enough : (n need : ℕ) (l : List (ℕ × ℕ)) → short ((n, need) ∷ l) ≡ false → (need ≤ n) × (short l ≡ false)
 unfolding short
 long-enough n need l e = let p = model.or-parts (ltb n need) (short l) e in (ltb-false n need (p .0), p .1)
@@ -63,3 +64,19 @@ none-short = refl
 pub lacks-short : (n need : ℕ) (l : List (ℕ × ℕ)) (rest r : Bool) → r ≡ (ltb n need || rest) → rest ≡ short l → r ≡ short ((n, need) ∷ l)
 unfolding short
 lacks-short n need l rest r e f = e ∙ ap (λ (x : Bool). ltb n need || x) f
+
+pub lacking-short : (k l : List (ℕ × ℕ)) (rest r : Bool) → r ≡ lacking k rest → rest ≡ short l → r ≡ short (k ++ l)
+unfolding short
+lacking-short k l rest r e f = e ∙ ap (lacking k) f ∙ go k
+  where
+    go : (k : List (ℕ × ℕ)) → lacking k (short l) ≡ short (k ++ l)
+    go [] = refl
+    go (b ∷ k) = ap (λ (x : Bool). ltb (b .0) (b .1) || x) (go k)
+
+pub three-short : (a b c need : ℕ) (l : List (ℕ × ℕ)) (rest r : Bool) → r ≡ lacking ((a, need) ∷ (b, need) ∷ (c, need) ∷ []) rest → rest ≡ short l
+    → r ≡ short ((a, need) ∷ (b, need) ∷ (c, need) ∷ l)
+three-short a b c need l = lacking-short ((a, need) ∷ (b, need) ∷ (c, need) ∷ []) l
+
+pub tables-short : (cells points statuses blockers pairs : ℕ) (l : List (ℕ × ℕ)) (rest r : Bool) → r ≡ lacking (tableNeeds cells points statuses blockers pairs []) rest → rest ≡ short l
+    → r ≡ short (tableNeeds cells points statuses blockers pairs l)
+tables-short cells points statuses blockers pairs l = lacking-short (tableNeeds cells points statuses blockers pairs []) l

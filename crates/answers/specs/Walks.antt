@@ -1,7 +1,9 @@
 -- Between functions: what a map's five tables need; what the walks over points and pairs are lent, and what they list: the model's `pairs`, a row for each point (RULES 2.2, all pairs and open pairs; occupancy/mod.rs, `iter_points`, `iter_edges`). Definitions only.
 use Prim.Native.Nat.{ℕ, _+_, _-_, _≤_}
 use mathlib.Core.Path.{_≡_}
-use mathlib.Core.List.{List, _∷_, _++_}
+use mathlib.Core.Bool.{Bool, _||_}
+use mathlib.Core.List.{List, [], _∷_, _++_}
+use lib.Dec.{ltb}
 use lib.ListN.{drop, getD, length}
 use Rattle.answers.specs.Asking.{Front}
 use Rattle.answers.specs.Columns.{greaters, lessers, pairBlocks}
@@ -16,6 +18,11 @@ use Rattle.held.specs.Layers.{blocksOf, edgeAt}
 -- ---- the lengths of a map's five tables with their needs, and those of the rest
 abbrev pub tableNeeds : ℕ → ℕ → ℕ → ℕ → ℕ → List (ℕ × ℕ) → List (ℕ × ℕ)
 tableNeeds cells points statuses blockers pairs l = (cells, maxCells) ∷ (points, maxPoints) ∷ (statuses, maxPoints) ∷ (blockers, maxPoints) ∷ (pairs, pairPlaces) ∷ l
+
+-- whether one of some lengths is short of its need, or the rest is
+abbrev pub lacking : List (ℕ × ℕ) → Bool → Bool
+lacking [] rest = rest
+lacking (b ∷ l) rest = ltb (b .0) (b .1) || lacking l rest
 
 -- ---- lists of pairs
 -- u is listed after any n pairs v that are at the front of t, and there are r then; col names the column

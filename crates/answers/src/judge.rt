@@ -13,13 +13,13 @@ use sizes::POINTS;
 ghost use mathlib.Core.Path.{_≡_};
 ghost use mathlib.Core.Bool.{_||_};
 ghost use lib.Dec.{ltb};
-ghost use mathlib.Core.List.{List, [], _∷_};
-ghost use Prim.Native.Nat.{ℕ, _+_};
+ghost use mathlib.Core.List.{[], _∷_};
+ghost use Prim.Native.Nat.{_+_};
 ghost use Rattle.model.specs.Limits.{beyond, maxCoordinate};
-ghost use Rattle.model.specs.Refusal.{offMap, order, short};
+ghost use Rattle.model.specs.Refusal.{offMap, order};
 ghost use Rattle.limits.specs.Words.{firstOn, wordOn};
 ghost use Rattle.answers.specs.Asking.{onMap, refusedWith};
-ghost use Rattle.answers.specs.Walks.{tableNeeds};
+ghost use Rattle.answers.specs.Walks.{lacking, tableNeeds};
 
 // 0 and how many there are; or the refusal's number, and 0.
 #[repr(C)]
@@ -48,8 +48,14 @@ pub fn lacks(length: usize, need: usize, rest: bool) -> bool
 }
 
 // 9: whether one of three tables with the same need is, or one of the rest is.
-pub fn lacks_three(first: usize, second: usize, third: usize, need: usize, rest: bool) -> bool
-    ensures { λ r. ⌜ ((l : List (ℕ × ℕ)) → rest ≡ short l → r ≡ short ((first, need) ∷ (second, need) ∷ (third, need) ∷ l)) ⌝ }
+pub(crate) fn lacks_three(
+    first: usize,
+    second: usize,
+    third: usize,
+    need: usize,
+    rest: bool,
+) -> bool
+    ensures { λ r. ⌜ r ≡ lacking ((first, need) ∷ (second, need) ∷ (third, need) ∷ []) rest ⌝ }
 {
     lacks(first, need, lacks(second, need, lacks(third, need, rest)))
 }
@@ -63,7 +69,7 @@ pub fn lacks_tables(
     pairs: usize,
     rest: bool,
 ) -> bool
-    ensures { λ r. ⌜ ((l : List (ℕ × ℕ)) → rest ≡ short l → r ≡ short (tableNeeds cells points statuses blockers pairs l)) ⌝ }
+    ensures { λ r. ⌜ r ≡ lacking (tableNeeds cells points statuses blockers pairs []) rest ⌝ }
 {
     let layer = lacks_three(
         points,

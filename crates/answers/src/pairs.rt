@@ -103,8 +103,9 @@ fn open_row(
     greater: &mut [u64],
     count: usize,
 ) -> usize
-    requires { ⌜ (i < length (now points)) × (length (now points) ≤ maxPoints) × (pairPlaces ≤ length (now pairs)) × (length (now points) ≤ length (now blockers))
-        × (getD (now blockers) i 0 ≡ 0) × RowFits (now points) i count (now lesser) × RowFits (now points) i count (now greater) ⌝ }
+    requires { ⌜ (i < length (now points)) × (length (now points) ≤ maxPoints) × (pairPlaces ≤ length (now pairs))
+        × (length (now points) ≤ length (now blockers)) × (getD (now blockers) i 0 ≡ 0)
+        × RowFits (now points) i count (now lesser) × RowFits (now points) i count (now greater) ⌝ }
     ensures { λ r. ⌜ OpenRowListed (now (points .entry)) (now (blockers .entry)) (now (pairs .entry)) i count r
         (now (lesser .entry)) (now (lesser .exit)) (now (greater .entry)) (now (greater .exit)) ⌝ }
 {

@@ -33,7 +33,7 @@ grown-none C p = record {
   fixed = λ r u. absurd u;
   whole = λ j r a b. absurd (omega arith);
   linked = λ j r a b. absurd (omega arith);
-  near = λ j l r a b h. absurd (omega arith);
+  touching = λ j l r a b h. absurd (omega arith);
 }
 
 -- ---- all places are planted
@@ -42,10 +42,10 @@ module _ (C p : List ℕ) (joined : ℕ) (a : AscL 0 C) (d : Down p) (g : Grown 
   side j l r b h s w = go (decLt j l) (decLt l j)
     where
       go : Dec (j < l) → Dec (l < j) → Root p l r
-      go (yes x) y = g .near j l r zero-le x h s w
+      go (yes x) y = g .touching j l r zero-le x h s w
       go (no x) (yes y) =
           let v = root-some p d l in
-          let z = g .near l j (v .0) zero-le y b (rw (adjacent-sym (getD C j 0) (getD C l 0)) at s) (v .1) in
+          let z = g .touching l j (v .0) zero-le y b (rw (adjacent-sym (getD C j 0) (getD C l 0)) at s) (v .1) in
           subst (Root p l) (root-one z w) (v .1)
       go (no x) (no y) = let e : j ≡ l = omega arith in subst (λ (x : ℕ). Root p x r) e w
 

@@ -55,13 +55,13 @@ down-set p i v d l h j = go (ℕ-discrete j i)
     go (yes e) = rw (e, getD-set-same p i v 0 l) h
 
 -- a place before the root: no way passes it
-pub set-behind : {p : List ℕ} {j r : ℕ} (i v : ℕ) → Down p → i < r → Root p j r → Root (set p i v) j r
-set-behind {p} {j} i v d h (here e) = here (getD-set-other p i j v 0 (omega arith) ∙ e)
-set-behind {p} {j} {r} i v d h (up n w) =
+pub set-below : {p : List ℕ} {j r : ℕ} (i v : ℕ) → Down p → i < r → Root p j r → Root (set p i v) j r
+set-below {p} {j} i v d h (here e) = here (getD-set-other p i j v 0 (omega arith) ∙ e)
+set-below {p} {j} {r} i v d h (up n w) =
     let l = root-le d w in
     let g = d j in
     let e : getD (set p i v) j 0 ≡ getD p j 0 = getD-set-other p i j v 0 (omega arith) in
-    up {i = j} {r = r} (rw e n) (rw e (set-behind i v d h w))
+    up {i = j} {r = r} (rw e n) (rw e (set-below i v d h w))
 
 -- a place is led on by two steps
 abbrev two : List ℕ → ℕ → ℕ

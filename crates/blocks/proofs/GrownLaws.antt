@@ -22,7 +22,7 @@ use Rattle.table.proofs.LookLaws.{has-there, there-length}
 use Rattle.blocks.specs.Forest.{Down, Root}
 use Rattle.blocks.specs.Forest as forest
 use Rattle.blocks.specs.Grown.{Grown}
-use Rattle.blocks.proofs.ForestLaws.{root-one, root-some, set-behind}
+use Rattle.blocks.proofs.ForestLaws.{root-one, root-some, set-below}
 use Rattle.blocks.proofs.PlaceLaws.{asc-above}
 
 -- ---- no tree was joined
@@ -36,7 +36,7 @@ module _ {C p q : List ℕ} {i m joined : ℕ} (n : ℕ) (d : Down p) (k : (j r 
     fixed = λ r u. k r r (g .fixed r u);
     whole = λ j r a b w. g .whole j r a b (old j r w);
     linked = λ j r a b w. g .linked j r a b (old j r w);
-    near = λ j l r a b h s w. k l r (g .near j l r a b h s (old j r w));
+    touching = λ j l r a b h s w. k l r (g .touching j l r a b h s (old j r w));
   }
     where
       old : (j r : ℕ) → Root q j r → Root p j r
@@ -45,7 +45,7 @@ module _ {C p q : List ℕ} {i m joined : ℕ} (n : ℕ) (d : Down p) (k : (j r 
 -- ---- the tree of `at` was joined to that of i
 module _
     {C p q : List ℕ} {i m joined : ℕ} (n at root : ℕ) (d : Down p) (k : (j r : ℕ) → Root p j r → Root q j (cond (eqb r root) i r)) (g : Grown C p i m joined)
-    (inside : i < length C) (top : getD p i 0 ≡ i) (from : Root p at root) (behind : i ≤ at) (within : at < length C) (link : Linked C (getD C i 0) (getD C at 0)) where
+    (inside : i < length C) (top : getD p i 0 ≡ i) (from : Root p at root) (later-on : i ≤ at) (within : at < length C) (link : Linked C (getD C i 0) (getD C at 0)) where
   abbrev to : ℕ → ℕ
   to r = cond (eqb r root) i r
 
@@ -74,7 +74,7 @@ module _
     roots = cut root (g .roots);
     asc = ascL-cut i root (g .roots) (g .asc);
     count =
-        let t = there-length root (g .roots) (has-there root (g .roots) (ascL-down 0 i (g .roots) zero-le (g .asc)) (T→true (has root (g .roots)) (g .whole at root behind within from))) in
+        let t = there-length root (g .roots) (has-there root (g .roots) (ascL-down 0 i (g .roots) zero-le (g .asc)) (T→true (has root (g .roots)) (g .whole at root later-on within from))) in
         omega (arith, g .count);
     inside = λ r u. g .inside r (was r u);
     fixed = λ r u. subst (Root q r) (ap (λ b. cond b i r) (ne-eqb r root (left r u))) (k r r (g .fixed r (was r u)));
@@ -89,9 +89,9 @@ module _
         let l = g .linked j (v .0) a b (v .1) in
         subst (λ (x : ℕ). Linked C (getD C j 0) (getD C x 0)) (v .2)
         (pick (λ x. Linked C (getD C j 0) (getD C x 0)) (v .0)
-        (λ o. linked-trans (rw o at l) (linked-trans (linked-sym (g .linked at root behind within from)) (linked-sym link)))
+        (λ o. linked-trans (rw o at l) (linked-trans (linked-sym (g .linked at root later-on within from)) (linked-sym link)))
         (λ o. l));
-    near = λ j l s a b h t w. let v = old j s w in subst (Root q l) (v .2) (k l (v .0) (g .near j l (v .0) a b h t (v .1)));
+    touching = λ j l s a b h t w. let v = old j s w in subst (Root q l) (v .2) (k l (v .0) (g .touching j l (v .0) a b h t (v .1)));
   }
 
 -- ---- place i was planted
@@ -103,7 +103,7 @@ module _ {C p : List ℕ} {i joined : ℕ} (d : Down p) (room : i < length p) (i
   alone = forest.here (getD-set-same p i i 0 room)
 
   later : (j r : ℕ) → T (has r (g .roots)) → Root p j r → Root next j r
-  later j r u w = set-behind i i d (asc-above (suc i) r (g .roots) (g .asc) u) w
+  later j r u w = set-below i i d (asc-above (suc i) r (g .roots) (g .asc) u) w
 
   before : (j r : ℕ) → suc i ≤ j → j < length C → Root next j r → Root p j r
   before j r a b w =
@@ -131,9 +131,9 @@ module _ {C p : List ℕ} {i joined : ℕ} (d : Down p) (room : i < length p) (i
     linked = λ j r a. split (λ j. j < length C → Root next j r → Linked C (getD C j 0) (getD C r 0)) j a
         (λ b w. rw (root-one w alone) (here (has-at C i inside)))
         (λ h b w. g .linked j r h b (before j r h b w));
-    near = λ j l r a b h s w.
+    touching = λ j l r a b h s w.
         let v = before j r a (omega arith) w in
-        later l r (g .whole j r a (omega arith) v) (g .near j l r a b h s v);
+        later l r (g .whole j r a (omega arith) v) (g .touching j l r a b h s v);
   }
 
 -- ---- i's own neighbours are of its tree
@@ -147,12 +147,12 @@ grown-closed {C} {p} {i} {joined} top g f = record {
   fixed = g .fixed;
   whole = g .whole;
   linked = g .linked;
-  near = near;
+  touching = touching;
 }
   where
-    near : (j l r : ℕ) → i ≤ j → j < l → l < length C → T (adjacent (getD C j 0) (getD C l 0)) → Root p j r → Root p l r
-    near j l r a b h s w = go (ℕ-discrete i j)
+    touching : (j l r : ℕ) → i ≤ j → j < l → l < length C → T (adjacent (getD C j 0) (getD C l 0)) → Root p j r → Root p l r
+    touching j l r a b h s w = go (ℕ-discrete i j)
       where
         go : Dec (i ≡ j) → Root p l r
         go (yes e) = rw (root-one w (subst (λ (x : ℕ). Root p x x) e (forest.here top))) (subst (Root p l) e (f l (omega arith) h (rw (sym e) at s)))
-        go (no o) = g .near j l r (omega arith) b h s w
+        go (no o) = g .touching j l r (omega arith) b h s w

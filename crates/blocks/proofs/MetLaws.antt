@@ -23,7 +23,7 @@ use Rattle.blocks.specs.Forest as forest
 use Rattle.blocks.specs.Grown.{Grown, Met, Planted}
 use Rattle.blocks.proofs.ForestLaws.{root-fixed}
 use Rattle.blocks.proofs.GrownLaws.{grown-closed, grown-moved, grown-planted, grown-same}
-use Rattle.blocks.proofs.PlaceLaws.{asc-above, asc-one, rank-behind}
+use Rattle.blocks.proofs.PlaceLaws.{asc-above, asc-one, rank-after}
 
 -- ---- sides
 test-one : (n : ℕ) → n ≡ 1 → T (eqb n 1)
@@ -69,7 +69,7 @@ module _ {C p q : List ℕ} {i key n : ℕ} (d : Down p) (top : getD p i 0 ≡ i
     there = λ m joined g a l h b t u. absurd (f a l h b t u);
   })
 
-  module _ (at : ℕ) (inside : i < length C) (behind : i < at) (touch : T (adjacent (getD C i 0) key)) where
+  module _ (at : ℕ) (inside : i < length C) (later-on : i < at) (touch : T (adjacent (getD C i 0) key)) where
     met-found : at < length C → getD C at 0 ≡ key → Joined i at n p q → Met C i key n p q
     met-found within is found = record {
       down = found .down;
@@ -133,7 +133,7 @@ pub right-at : (C : List ℕ) → AscL 0 C → (i key r : ℕ) → (AscL 0 (take
 right-at C a i key r f l h b e =
     let t : take (length C - (i + 1)) (drop (i + 1) C) ≡ drop (suc i) C = tail-is (i + 1) C ∙ ap (λ (x : ℕ). drop x C) (add-one i) in
     let s : r ≡ rank key (drop (suc i) C) = subst (λ (D : List ℕ). AscL 0 D → r ≡ rank key D) t f (ascL-drop 0 (suc i) C a) in
-    let w : suc i + rank key (drop (suc i) C) ≡ l = rw e at (rank-behind C a i l h b) in
+    let w : suc i + rank key (drop (suc i) C) ≡ l = rw e at (rank-after C a i l h b) in
     omega arith
 
 -- ---- place i is planted, and both cells are sought

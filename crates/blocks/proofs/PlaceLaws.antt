@@ -47,8 +47,8 @@ rank-at l a j h = go (rank-below (getD l j 0) l j h (omega arith)) (decLt (rank 
     go b (no d) = let x = r in omega arith
 
 -- a member that comes after place i is found there
-pub rank-behind : (l : List ℕ) → AscL 0 l → (i j : ℕ) → i < j → j < length l → suc i + rank (getD l j 0) (drop (suc i) l) ≡ j
-rank-behind l a i j h k =
+pub rank-after : (l : List ℕ) → AscL 0 l → (i j : ℕ) → i < j → j < length l → suc i + rank (getD l j 0) (drop (suc i) l) ≡ j
+rank-after l a i j h k =
     let s : suc i + (j - suc i) ≡ j = omega arith in
     let e : getD (drop (suc i) l) (j - suc i) 0 ≡ getD l j 0 = getD-drop (suc i) l (j - suc i) 0 ∙ ap (λ (x : ℕ). getD l x 0) s in
     let r : rank (getD (drop (suc i) l) (j - suc i) 0) (drop (suc i) l) ≡ j - suc i = rank-at (drop (suc i) l) (ascL-drop 0 (suc i) l a) (j - suc i) (rw (length-drop (suc i) l) (omega arith)) in

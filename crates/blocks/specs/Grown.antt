@@ -17,7 +17,7 @@ pub record Grown (C p : List ℕ) (i m joined : ℕ) : Type 0 where
   pub fixed : (r : ℕ) → T (has r roots) → Root p r r
   pub whole : (j r : ℕ) → i ≤ j → j < length C → Root p j r → T (has r roots)
   pub linked : (j r : ℕ) → i ≤ j → j < length C → Root p j r → Linked C (getD C j 0) (getD C r 0)
-  pub near : (j l r : ℕ) → m ≤ j → j < l → l < length C → T (adjacent (getD C j 0) (getD C l 0)) → Root p j r → Root p l r
+  pub touching : (j l r : ℕ) → m ≤ j → j < l → l < length C → T (adjacent (getD C j 0) (getD C l 0)) → Root p j r → Root p l r
 
 -- the tree of the cell `key`, if it comes after place i and touches the cell there, was joined to that of i: n is how many trees there are less
 pub record Met (C : List ℕ) (i key n : ℕ) (p p′ : List ℕ) : Type 0 where

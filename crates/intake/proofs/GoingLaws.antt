@@ -35,8 +35,8 @@ pub within-long : (w : Window) (b : List ℕ) → Within w b → length (bytesOf
 within-long w b h = let x = length-take (w .end - w .from) (drop (w .from) b) in let y = length-drop (w .from) b in omega arith
 
 -- the window after `used` of its bytes
-pub behind : (from end used : ℕ) (b : List ℕ) → take (end - (from + used)) (drop (from + used) b) ≡ drop used (take (end - from) (drop from b))
-behind from end used b =
+pub window-after : (from end used : ℕ) (b : List ℕ) → take (end - (from + used)) (drop (from + used) b) ≡ drop used (take (end - from) (drop from b))
+window-after from end used b =
     part-is (from + used) end b ∙ sym (drop-drop used from (take end b)) ∙ ap (drop used) (sym (part-is from end b))
 
 -- what is lent is long enough

@@ -120,8 +120,8 @@ due-same t n b m l = go (eqb t 3 && ltb 2304 n) (fitting t n) refl refl
         let j : n ≤ length (b ++ m) = simp length-append (omega arith) in
         rw (le-ltb (length (b ++ m)) n j, le-ltb (length b) n i, take-append-le n b m i) refl
 
-near : (w m : List ℕ) (k : ℕ) → 2307 ≤ length w → k < 3 → getD (w ++ m) k 0 ≡ getD w k 0
-near w m k h l = List·getD-append w m 0 k (omega arith)
+in-window : (w m : List ℕ) (k : ℕ) → 2307 ≤ length w → k < 3 → getD (w ++ m) k 0 ≡ getD w k 0
+in-window w m k h l = List·getD-append w m 0 k (omega arith)
 
 pub due-window : (e : Expected) (w m : List ℕ) → 2307 ≤ length w → dueAt e (w ++ m) ≡ dueAt e w
 unfolding dueAt
@@ -129,7 +129,7 @@ due-window e w m h =
     let i : 3 ≤ length w = omega arith in
     let j : 3 ≤ length (w ++ m) = simp length-append (omega arith) in
     let l : 2304 ≤ length (drop 3 w) = simp length-drop (omega arith) in
-    rw (le-ltb (length (w ++ m)) 3 j, le-ltb (length w) 3 i, near w m 0 h (omega arith), near w m 1 h (omega arith), near w m 2 h (omega arith), drop-append-le 3 w m i, due-same (getD w 0 0) (lengthAt w) (drop 3 w) m l) refl
+    rw (le-ltb (length (w ++ m)) 3 j, le-ltb (length w) 3 i, in-window w m 0 h (omega arith), in-window w m 1 h (omega arith), in-window w m 2 h (omega arith), drop-append-le 3 w m i, due-same (getD w 0 0) (lengthAt w) (drop 3 w) m l) refl
 
 -- a field that is taken leaves what comes after the window as it is
 module _ (m : List ℕ) where
@@ -167,7 +167,7 @@ field-window R w m h =
         let l = head-within (R .expected) w d in
         let i : 3 ≤ length w = omega arith in
         let j : lengthAt w ≤ length (drop 3 w) = simp length-drop (omega arith) in
-        rw (near w m 0 h (omega arith), near w m 1 h (omega arith), near w m 2 h (omega arith), drop-append-le 3 w m i, take-append-le (lengthAt w) (drop 3 w) m j, drop-append-le (lengthAt w) (drop 3 w) m j)
+        rw (in-window w m 0 h (omega arith), in-window w m 1 h (omega arith), in-window w m 2 h (omega arith), drop-append-le 3 w m i, take-append-le (lengthAt w) (drop 3 w) m j, drop-append-le (lengthAt w) (drop 3 w) m j)
         (taken-window m (R .expected) R (getD w 0 0) (take (lengthAt w) (drop 3 w)) (drop (lengthAt w) (drop 3 w)))
 
     go : (p : Bool) → eqb (dueAt (R .expected) w) 0 ≡ p

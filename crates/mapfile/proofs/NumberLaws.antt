@@ -61,8 +61,8 @@ module _ (v : List ℕ) (t t′ : List ℤ) (at n : ℕ) (s : Writing v t t′ a
   number : (k : ℕ) (l : List ℤ) → drop n (wanted v) ≡ l → getD l k (pos 0) ≡ getD (wanted v) (n + k) (pos 0)
   number k l e = ap (λ (m : List ℤ). getD m k (pos 0)) (sym e) ∙ getD-drop n (wanted v) k (pos 0)
 
-  behind : (x y f : ℤ) (l : List ℤ) → drop n (wanted v) ≡ x ∷ y ∷ f ∷ l → drop (n + 3) (wanted v) ≡ l
-  behind x y f l e = sym (drop-drop 3 n (wanted v)) ∙ ap (drop 3) e
+  rest-after : (x y f : ℤ) (l : List ℤ) → drop n (wanted v) ≡ x ∷ y ∷ f ∷ l → drop (n + 3) (wanted v) ≡ l
+  rest-after x y f l e = sym (drop-drop 3 n (wanted v)) ∙ ap (drop 3) e
 
   stored : (l : List ℤ) (i : ℕ) (x : ℤ) → i < length (wanted v) → i < length t → x ≡ getD (wanted v) i (pos 0) → l ≡ mix (wanted v) t i → set l i x ≡ mix (wanted v) t (i + 1)
   stored l i x h k e p =
@@ -84,7 +84,7 @@ module _ (v : List ℕ) (t t′ : List ℤ) (at n : ℕ) (s : Writing v t t′ a
         within = omega arith;
         before = omega arith;
         long = simp length-set (s .long);
-        rest = behind _ _ _ _ (entry h);
+        rest = rest-after _ _ _ _ (entry h);
         is = c;
       }
 

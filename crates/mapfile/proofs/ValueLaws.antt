@@ -72,17 +72,17 @@ module _ (n : ℕ) (l : List ℕ) (e : n ≡ bigEndian 0 l) where
       let k : n < 2 ^ 63 = omega arith in
       toZ-pos w64 n k ∙ rw (← e, lt-ltb n 2147483648 h) refl
 
-  turned : 2147483648 ≤ n → n < 2 ^ 32 → toZ w64 n -ℤ pos 4294967296 ≡ negsuc (4294967295 - n)
-  turned h k =
+  wrapped : 2147483648 ≤ n → n < 2 ^ 32 → toZ w64 n -ℤ pos 4294967296 ≡ negsuc (4294967295 - n)
+  wrapped h k =
       let j : n < 2 ^ 63 = omega arith in
       let a = less-parts (pos n) (pos 4294967296) in
       ap (λ (z : ℤ). z -ℤ pos 4294967296) (toZ-pos w64 n j) ∙ same-int (pos n -ℤ pos 4294967296) (negsuc (4294967295 - n)) (omega arith)
 
   pub int-fits : 2147483648 ≤ n → n < 2 ^ 32 → SFits w64 (toZ w64 n -ℤ pos 4294967296)
-  int-fits h k = subst (λ (z : ℤ). SFits w64 z) (sym (turned h k)) (record { sfits = omega arith })
+  int-fits h k = subst (λ (z : ℤ). SFits w64 z) (sym (wrapped h k)) (record { sfits = omega arith })
 
   pub int-high : 2147483648 ≤ n → n < 2 ^ 32 → toZ w64 (ofZ w64 (toZ w64 n -ℤ pos 4294967296)) ≡ int32 l
-  int-high h k = toZ-ofZ w64 (toZ w64 n -ℤ pos 4294967296) (int-fits h k) ∙ turned h k ∙ rw (← e, le-ltb n 2147483648 h) refl
+  int-high h k = toZ-ofZ w64 (toZ w64 n -ℤ pos 4294967296) (int-fits h k) ∙ wrapped h k ∙ rw (← e, le-ltb n 2147483648 h) refl
 
 -- ---- flags: those before the place `at` are good
 pub record Good (v : List ℕ) (at : ℕ) : Type 0 where

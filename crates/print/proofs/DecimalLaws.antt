@@ -13,10 +13,10 @@ use Rattle.ieee.proofs.Tools.{lt-or-ge}
 use Rattle.model.specs.Listing.{digits, decimal}
 
 -- what comes after stays there
-digits-behind : (f n : ℕ) (m l : List ℕ) → digits f n (m ++ l) ≡ digits f n m ++ l
+digits-before : (f n : ℕ) (m l : List ℕ) → digits f n (m ++ l) ≡ digits f n m ++ l
 unfolding digits
-digits-behind zero n m l = refl
-digits-behind (suc f) n m l = go (ltb n 10) (digits-behind f (n / 10) ((48 + n % 10) ∷ m) l)
+digits-before zero n m l = refl
+digits-before (suc f) n m l = go (ltb n 10) (digits-before f (n / 10) ((48 + n % 10) ∷ m) l)
   where
     go : (b : Bool) → digits f (n / 10) ((48 + n % 10) ∷ (m ++ l)) ≡ digits f (n / 10) ((48 + n % 10) ∷ m) ++ l
         → cond b ((48 + n % 10) ∷ (m ++ l)) (digits f (n / 10) ((48 + n % 10) ∷ (m ++ l))) ≡ cond b ((48 + n % 10) ∷ m) (digits f (n / 10) ((48 + n % 10) ∷ m)) ++ l
@@ -47,7 +47,7 @@ pub decimal-more : (n : ℕ) → 10 ≤ n → decimal n ≡ decimal (n / 10) ++ 
 unfolding digits
 decimal-more n h =
     let d : List ℕ = (48 + n % 10) ∷ [] in
-    rw (le-ltb n 10 h) (digits-turns n (suc (n / 10)) (n / 10) d (omega arith) (omega arith) ∙ digits-behind (suc (n / 10)) (n / 10) [] d)
+    rw (le-ltb n 10 h) (digits-turns n (suc (n / 10)) (n / 10) d (omega arith) (omega arith) ∙ digits-before (suc (n / 10)) (n / 10) [] d)
 
 pub length-one : (n : ℕ) → n < 10 → length (decimal n) ≡ 1
 length-one n h = ap length (decimal-one n h)

@@ -31,13 +31,13 @@ module _ (line : ℕ → ℕ → ℕ → List ℕ) where
     pub wideC : length a ≤ length c
     pub room : at + lineRoom * length a ≤ length t
     pub long : length t′ ≡ length t
-    pub near : end ≤ at + lineRoom * i
+    pub few : end ≤ at + lineRoom * i
     pub is : Put (rows line (take i a) b c) at end t t′
 
   pub writing-none : (a b c t : List ℕ) (at : ℕ) → not (linesFit (length a) (length b) (length c) at (length t)) ≡ false → Writing a b c t t at at 0
   writing-none a b c t at e =
       let f = fit (length a) (length b) (length c) at (length t) e in
-      record { inside = omega arith; wideB = f .0; wideC = f .1; room = f .2; long = refl; near = omega arith; is = put-none at t }
+      record { inside = omega arith; wideB = f .0; wideC = f .1; room = f .2; long = refl; few = omega arith; is = put-none at t }
 
   module _ {a b c t t′ : List ℕ} {at end i : ℕ} (w : Writing a b c t t′ at end i) where
     -- there is room for one more line
@@ -57,7 +57,7 @@ module _ (line : ℕ → ℕ → ℕ → List ℕ) where
           wideC = w .wideC;
           room = w .room;
           long = f ∙ w .long;
-          near = omega arith;
+          few = omega arith;
           is = rw (add-one i, rows-suc a b c i h (omega arith) (omega arith)) (put-then (w .is) (omega arith) p);
         }
 
@@ -65,4 +65,4 @@ module _ (line : ℕ → ℕ → ℕ → List ℕ) where
     writing-done h =
         let p : Put (rows line a b c) at end t t′ = rw (take-all i a h) at (w .is) in
         let e : i ≡ length a = omega (arith, w .inside) in
-        printed-done (fits (length a) (length b) (length c) at (length t) (w .wideB) (w .wideC) (w .room)) p (omega (arith, p .end, w .near))
+        printed-done (fits (length a) (length b) (length c) at (length t) (w .wideB) (w .wideC) (w .room)) p (omega (arith, p .end, w .few))

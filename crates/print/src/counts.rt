@@ -20,7 +20,8 @@ pub struct Counts {
 // Returns how many bytes the line has. Nothing is written where there is not room for 256.
 pub fn put_counts(out: &mut [u8], counts: Counts) -> usize
     ensures { λ r. ⌜ Printed (leb firstRoom (length (now (out .entry)))) firstRoom
-        (countsLine (counts .cells) (counts .corners) (counts .points) (counts .edges) (counts .open) (counts .blocks)) 0 r (now (out .entry)) (now (out .exit)) ⌝ }
+        (countsLine (counts .cells) (counts .corners) (counts .points) (counts .edges) (counts .open) (counts .blocks))
+        0 r (now (out .entry)) (now (out .exit)) ⌝ }
 {
     if out.len() < FIRST {
         return 0;

@@ -49,21 +49,21 @@ module _ (m : Map) (t : Tables) (M : model.Map) (h : Holds m t M) (cells : List 
 pub put-front : {s o o′ : List ℕ} {c : ℕ} → Put s 0 c o o′ → (c ≡ length s) × (o′ ≡ s ++ drop c o)
 put-front p = (p .end ∙ zero-add _, p .is)
 
-module _ {s u v o o₁ o₂ o₃ : List ℕ} {a b c : ℕ} (ks ss bs ls gs qs : List ℕ) (room : needListing ≤ length o) where
-  printed-all : length ks ≤ maxPoints → length ks ≤ length ss → length ks ≤ length bs → length ls ≤ needPairs → length ls ≤ length gs → length ls ≤ length qs
-      → Printed (leb firstRoom (length o)) firstRoom s 0 a o o₁ → Printed (linesFit (length ks) (length ss) (length bs) a (length o₁)) (lineRoom * length ks) u a b o₁ o₂
-      → Printed (linesFit (length ls) (length gs) (length qs) b (length o₂)) (lineRoom * length ls) v b c o₂ o₃
+module _ {s u v o o₁ o₂ o₃ : List ℕ} {a b c : ℕ} (as₁ as₂ as₃ bs₁ bs₂ bs₃ : List ℕ) (room : needListing ≤ length o) where
+  printed-all : length as₁ ≤ maxPoints → length as₁ ≤ length as₂ → length as₁ ≤ length as₃ → length bs₁ ≤ needPairs → length bs₁ ≤ length bs₂ → length bs₁ ≤ length bs₃
+      → Printed (leb firstRoom (length o)) firstRoom s 0 a o o₁ → Printed (linesFit (length as₁) (length as₂) (length as₃) a (length o₁)) (lineRoom * length as₁) u a b o₁ o₂
+      → Printed (linesFit (length bs₁) (length bs₂) (length bs₃) b (length o₂)) (lineRoom * length bs₁) v b c o₂ o₃
       → (c ≡ length (s ++ u ++ v)) × (o₃ ≡ s ++ u ++ v ++ drop c o)
   printed-all hk hs hb hl hg hq x y z =
       let p = x .done (le-leb firstRoom (length o) (omega arith)) in
       let e₁ = p .0 .end in
       let l₁ = p .1 in
       let n₁ = put-long (p .0) (omega arith) in
-      let q = y .done (fits (length ks) (length ss) (length bs) a (length o₁) hs hb (omega arith)) in
+      let q = y .done (fits (length as₁) (length as₂) (length as₃) a (length o₁) hs hb (omega arith)) in
       let e₂ = q .0 .end in
       let l₂ = q .1 in
       let n₂ = put-long (q .0) (omega arith) in
-      let r = z .done (fits (length ls) (length gs) (length qs) b (length o₂) hg hq (omega arith)) in
+      let r = z .done (fits (length bs₁) (length bs₂) (length bs₃) b (length o₂) hg hq (omega arith)) in
       let w : 0 ≤ length o = omega arith in
       put-front (put-then (put-then (p .0) w (q .0)) w (r .0))
 
@@ -105,7 +105,7 @@ module _ (m : Map) (t : Tables) (M : model.Map) (h : Holds m t M) (points status
         let l : List Pair = allPairs M in
         let few : length ps ≤ maxPoints = h .layer .room in
         let kk = keys-length ps in
-        let ks = statuses-length ps in
+        let kt = statuses-length ps in
         let kb = codes-count ps in
         let ll = lessers-length l in
         let ln = w .0 in

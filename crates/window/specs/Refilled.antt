@@ -19,7 +19,7 @@ Within w b = (w .from ≤ w .end) × (w .end ≤ length b)
 -- b became b′, of which r has the first `have` bytes still and then what came after them; it has all of b′ unless the input ended
 pub record Filled (have : ℕ) (r : Window) (b b′ : List ℕ) : Type 0 where
   pub front : r .from ≡ 0
-  pub behind : have ≤ r .end
+  pub past : have ≤ r .end
   pub inside : r .end ≤ length b′
   pub kept : take have b′ ≡ take have b
   pub full : r .ended ≡ false → r .end ≡ length b′

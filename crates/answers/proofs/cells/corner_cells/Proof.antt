@@ -5,7 +5,7 @@ use mathlib.Core.Bool.{false}
 use mathlib.Core.List.{List, [], _∷_}
 use lib.ListN.{length}
 use Rattle.answers.proofs.ListingLaws.{listing-done, listing-refused}
-use Rattle.answers.proofs.PassedLaws.{list-as, long-enough, none-short}
+use Rattle.answers.proofs.PassedLaws.{list-as, long-enough, none-short, three-short}
 use Rattle.answers.specs.Asking.{refuseMap}
 use Rattle.model.specs.Limits.{maxCells, needCells}
 use Rattle.model.specs.Refusal.{short}
@@ -25,7 +25,9 @@ abbrev rest : tie.Start → List (ℕ × ℕ)
 rest s = (length (s .args .out .now), needCells) ∷ last s
 
 due : (p : tie.After-refuse) → let a = start p .args in p .refuse .result ≡ refuseMap (short ((length (a .cells .now), maxCells) ∷ rest (start p))) (a .map) []
-due p = let l = p .before .lacks-three in list-as (p .refuse .result) (l .result) _ (start p .args .map) (p .refuse .ensures) (l .ensures [] none-short)
+due p =
+    let l = p .before .lacks-three in
+    list-as (p .refuse .result) (l .result) _ (start p .args .map) (p .refuse .ensures) (three-short _ _ _ maxCells [] false (l .result) (l .ensures) none-short)
 
 passes : (e : tie.Else1) → let a = start (e .before) .args in refuseMap (short ((length (a .cells .now), maxCells) ∷ rest (start (e .before)))) (a .map) [] ≡ 0
 passes e = sym (due (e .before)) ∙ e .if1 .left

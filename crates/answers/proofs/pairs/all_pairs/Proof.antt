@@ -6,7 +6,7 @@ use mathlib.Core.Bool.{false}
 use mathlib.Core.List.{List, [], _∷_}
 use lib.ListN.{length}
 use Rattle.answers.proofs.ListingLaws.{listing-done, listing-refused}
-use Rattle.answers.proofs.PassedLaws.{accepted, lacks-short, list-as, none-short}
+use Rattle.answers.proofs.PassedLaws.{accepted, lacks-short, list-as, none-short, three-short}
 use Rattle.answers.specs.Asking.{refuseMap}
 use Rattle.model.specs.Limits.{maxCells, maxPoints, needPairs}
 use Rattle.model.specs.Refusal.{short}
@@ -30,7 +30,7 @@ number p =
     let points = p .before in
     let pairs = points .before in
     let columns = pairs .before .lacks-three in
-    let e = lacks-short _ pairPlaces _ (columns .result) (pairs .lacks .result) (pairs .lacks .ensures) (columns .ensures [] none-short) in
+    let e = lacks-short _ pairPlaces _ (columns .result) (pairs .lacks .result) (pairs .lacks .ensures) (three-short _ _ _ needPairs [] false (columns .result) (columns .ensures) none-short) in
     list-as (p .refuse .result) (points .lacks2 .result) (short (lent (start p))) (start p .args .map) (p .refuse .ensures)
     (lacks-short _ maxPoints _ (pairs .lacks .result) (points .lacks2 .result) (points .lacks2 .ensures) e)
 

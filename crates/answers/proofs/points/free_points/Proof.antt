@@ -6,7 +6,7 @@ use mathlib.Core.Bool.{false}
 use mathlib.Core.List.{List, [], _∷_}
 use lib.ListN.{length}
 use Rattle.answers.proofs.ListingLaws.{listing-done, listing-refused}
-use Rattle.answers.proofs.PassedLaws.{accepted, list-as, none-short}
+use Rattle.answers.proofs.PassedLaws.{accepted, list-as, none-short, three-short}
 use Rattle.answers.specs.Asking.{refuseMap}
 use Rattle.model.specs.Limits.{maxCells, maxPoints}
 use Rattle.model.specs.Refusal.{short}
@@ -24,7 +24,9 @@ lent s = let a = s .args in (length (a .points .now), maxPoints) ∷ (length (a 
 
 -- what was answered, and what it says of the lent tables where it is 0
 number : (p : tie.After-refuse) → p .refuse .result ≡ refuseMap (short (lent (start p))) (start p .args .map) []
-number p = let l = p .before .lacks-three in list-as (p .refuse .result) (l .result) (short (lent (start p))) (start p .args .map) (p .refuse .ensures) (l .ensures [] none-short)
+number p =
+    let l = p .before .lacks-three in
+    list-as (p .refuse .result) (l .result) (short (lent (start p))) (start p .args .map) (p .refuse .ensures) (three-short _ _ _ maxPoints [] false (l .result) (l .ensures) none-short)
 
 accept : (p : tie.Else1) → Enough (lent (start (p .before))) × (start (p .before) .args .map .cells ≤ maxCells) × (start (p .before) .args .map .points ≤ maxPoints)
 accept p = let s = start (p .before) in accepted (lent s) (s .args .map) [] (p .before .refuse .result) (number (p .before)) (p .if1 .left)

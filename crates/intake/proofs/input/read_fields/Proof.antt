@@ -12,7 +12,7 @@ use Rattle.held.specs.Holds.{Tables, needs as needsOf, tablesOf}
 use Rattle.model.specs.Refusal.{short}
 use Rattle.window.specs.Refilled.{Within, bytesOf}
 use Rattle.model.specs.Limits.{needWindow}
-use Rattle.intake.proofs.GoingLaws.{Going, behind, go-done, go-fill, go-more, go-refused, go-start, tables-long, within-long}
+use Rattle.intake.proofs.GoingLaws.{Going, window-after, go-done, go-fill, go-more, go-refused, go-start, tables-long, within-long}
 use Rattle.intake.proofs.input.read_fields.Statement.{statement}
 use Rattle.intake.proofs.input.read_fields.Tie as tie
 
@@ -131,7 +131,7 @@ loop-again c =
     let e = within-long (r .refill .result) (r .refill .last .1 .0) i in
     let u = p .one-field .ensures .within (w .reading .given .0 .0) (w .reading .given .0 .1 .0) (w .reading .given .1) .1 in
     let g = go-more (going r) {t′ = after p} (p .one-field .ensures) (w .reading .given .0 .0) (w .reading .given .0 .1 .0) (w .reading .given .1) (wide r) (room c) in
-    (buffered r, same p, (omega (arith, i .0, i .1, e, u), i .1), rw (behind (r .refill .result .from) (r .refill .result .end) (w .reading .given .0 .1 .0) (r .refill .last .1 .0)) g)
+    (buffered r, same p, (omega (arith, i .0, i .1, e, u), i .1), rw (window-after (r .refill .result .from) (r .refill .result .end) (w .reading .given .0 .1 .0) (r .refill .last .1 .0)) g)
 
 returns-3 : tie.Need-returns-3 Inv-loop μ-loop
 returns-3 c =

@@ -3,7 +3,7 @@ use borrow.Author.Needs.{needs}
 use mathlib.Core.Path.{_≡_, sym, _∙_}
 use mathlib.Core.Bool.{false}
 use mathlib.Core.List.{[]}
-use Rattle.answers.proofs.PassedLaws.{lacks-short, none-short}
+use Rattle.answers.proofs.PassedLaws.{lacks-short, none-short, tables-short}
 use Rattle.held.specs.Holds.{Tables, tablesOf}
 use Rattle.model.specs.Limits.{needWindow}
 use Rattle.model.specs.Refusal.{short}
@@ -20,7 +20,7 @@ abbrev lent : tie.Start → Tables
 lent s = let a = s .args in tablesOf (a .cells .now) (a .points .now) (a .statuses .now) (a .blockers .now) (a .pairs .now)
 
 judged : (p : tie.After-lacks) → p .lacks .result ≡ short (taken.lent (start p .args .buffer .now) (lent (start p)))
-judged p = lacks-short _ needWindow _ (p .before .lacks-tables .result) (p .lacks .result) (p .lacks .ensures) (p .before .lacks-tables .ensures [] none-short)
+judged p = lacks-short _ needWindow _ (p .before .lacks-tables .result) (p .lacks .result) (p .lacks .ensures) (tables-short _ _ _ _ _ [] false (p .before .lacks-tables .result) (p .before .lacks-tables .ensures) none-short)
 
 long : (p : tie.Else1) → short (taken.lent (start (p .before) .args .buffer .now) (lent (start (p .before)))) ≡ false
 long p = sym (judged (p .before)) ∙ p .if1 .left

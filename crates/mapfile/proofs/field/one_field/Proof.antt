@@ -6,7 +6,7 @@ use mathlib.Core.Bool.{false}
 use mathlib.Core.List.{List, []}
 use lib.ListN.{length}
 use borrow.Author.Needs.{needs}
-use Rattle.answers.proofs.PassedLaws.{none-short}
+use Rattle.answers.proofs.PassedLaws.{none-short, tables-short}
 use Rattle.mapfile.specs.Fields.{expectedOf, headOf}
 use Rattle.model.specs.MapFile as model
 use Rattle.model.specs.MapFile.{takeBatch, takeEnd, takeRadius, takeSize, taken}
@@ -47,7 +47,7 @@ abbrev changed : tie.After-take-batch → Tables
 changed p = let k = p .take-batch .last .1 .1 .1 in tablesOf (k .0) (k .1 .0) (k .1 .1 .0) (k .1 .1 .1 .0) (k .1 .1 .1 .1 .0)
 
 judged : (p : tie.After-lacks-tables) → p .lacks-tables .result ≡ short (tables.needs (lent (start p)))
-judged p = p .lacks-tables .ensures [] none-short
+judged p = tables-short _ _ _ _ _ [] false (p .lacks-tables .result) (p .lacks-tables .ensures) none-short
 
 long : (p : tie.Else1) → short (tables.needs (lent (start (p .before)))) ≡ false
 long p = sym (judged (p .before)) ∙ p .if1 .left

@@ -10,7 +10,7 @@ use mathlib.Core.Logic.{⊎-elim, inl, inr}
 use lib.ListN.{length, length-replicate, replicate, take}
 use lib.Seq.{length-take-le}
 use Rattle.answers.proofs.ListingLaws.{listing-done, listing-refused}
-use Rattle.answers.proofs.PassedLaws.{accepted, lacks-short, list-as, none-short}
+use Rattle.answers.proofs.PassedLaws.{accepted, lacks-short, list-as, none-short, tables-short}
 use Rattle.answers.specs.Asking.{refuseMap}
 use Rattle.answers.proofs.PointLaws.{used}
 use Rattle.answers.specs.Walks.{tableNeeds}
@@ -37,7 +37,7 @@ number p =
     let o = t .before .lacks in
     let e = lacks-short (length (start p .args .out .now)) needListing [] false (o .result) (o .ensures) none-short in
     list-as (p .refuse .result) (t .lacks-tables .result) (short (lent (start p))) (start p .args .map) (p .refuse .ensures)
-    (t .lacks-tables .ensures ((length (start p .args .out .now), needListing) ∷ []) e)
+    (tables-short _ _ _ _ _ ((length (start p .args .out .now), needListing) ∷ []) (o .result) (t .lacks-tables .result) (t .lacks-tables .ensures) e)
 
 accept : (p : tie.Else1) → Enough (lent (start (p .before))) × (start (p .before) .args .map .cells ≤ maxCells) × (start (p .before) .args .map .points ≤ maxPoints)
 accept p = let s = start (p .before) in accepted (lent s) (s .args .map) [] (p .before .refuse .result) (number (p .before)) (p .if1 .left)

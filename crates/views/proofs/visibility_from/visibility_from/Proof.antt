@@ -6,7 +6,7 @@ use mathlib.Core.List.{[], _∷_}
 use mathlib.Core.Bool.{Bool, true, false}
 use lib.ListN.{length, take}
 use Rattle.answers.proofs.ListingLaws.{listing-refused}
-use Rattle.answers.proofs.PassedLaws.{asked-as, lacks-short, none-short}
+use Rattle.answers.proofs.PassedLaws.{asked-as, lacks-short, none-short, tables-short}
 use Rattle.model.specs.Limits.{needOthers}
 use Rattle.table.specs.Tables.{stands}
 use Rattle.held.specs.Holds.{Tables, tablesOf}
@@ -38,7 +38,8 @@ number p =
     let tables = p .before .before in
     let out = tables .before .lacks in
     asked-as (p .refuse .result) (tables .lacks-tables .result) _ (a .map) (p .before .off-edge .result) _ (p .refuse .ensures)
-    (tables .lacks-tables .ensures ((length (a .out .now), needOthers) ∷ []) (lacks-short (length (a .out .now)) needOthers [] false (out .result) (out .ensures) none-short))
+    (tables-short _ _ _ _ _ ((length (a .out .now), needOthers) ∷ []) (out .result) (tables .lacks-tables .result) (tables .lacks-tables .ensures)
+    (lacks-short (length (a .out .now)) needOthers [] false (out .result) (out .ensures) none-short))
     (p .before .off-edge .ensures)
 
 going : (e : tie.Else1) → let s = start (e .before) in let a = s .args in Going (a .map) (lent s) (a .out .now) (a .cell .x) (a .cell .y)

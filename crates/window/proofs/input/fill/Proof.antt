@@ -24,7 +24,7 @@ returns c =
     let seen = c .before .before .before .before .before .before .before .before .before .loop .inv in
     record {
       front = refl;
-      behind = omega arith;
+      past = omega arith;
       inside = omega arith;
       kept = front-kept _ _ _ _ _ (seen .0) (seen .1) (seen .3);
       full = λ e. absurd (true≢false e);
@@ -43,7 +43,7 @@ returns-2 : tie.Need-returns-2 Inv-loop μ-loop
 returns-2 c =
     record {
       front = refl;
-      behind = omega arith;
+      past = omega arith;
       inside = omega arith;
       kept = c .before .loop .inv .3;
       full = λ _. omega arith;
