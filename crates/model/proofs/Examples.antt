@@ -46,7 +46,7 @@ pub borders-hold : AllNamed borders
 unfolding everything
 borders-hold = (tt, (tt, (tt, (tt, (tt, (tt, (tt, (tt, (tt, (tt, (tt, tt)))))))))))
 
--- Refusals come in the order that document 01 gives them.
+-- Refusals come in the order of RULES 4.2.
 pub orders-hold : AllNamed orders
 unfolding everything
 orders-hold = (tt, (tt, (tt, (tt, (tt, (tt, (tt, (tt, tt))))))))
