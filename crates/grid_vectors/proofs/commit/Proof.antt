@@ -11,18 +11,6 @@ slice-aggregate-change c =
     let a = c .before .before .before .before .before .args in
     sym (length-take-le (a .used) (a .batch .now) (omega arith))
 
-change-requires : tie.Need-change-requires
-change-requires c κs = search needs
-
-same-length : tie.Need-same-length
-same-length c = search needs
-
-returns : tie.Need-returns
-returns c = search needs
-
-returns-2 : tie.Need-returns-2
-returns-2 c = search needs
-
 pub commit-spec : {M : Type 1} → statement M
 commit-spec =
-    tie.close (tie.spec slice-aggregate-change change-requires same-length returns returns-2)
+    tie.close (tie.spec slice-aggregate-change (λ c κs. search needs) (λ c. search needs) (λ c. search needs) (λ c. search needs))

@@ -14,32 +14,11 @@ product a b h k = let l = prod-lt a b h k in omega arith
 mul-wrapping-sub-u64 : tie.Need-mul-wrapping-sub-u64
 mul-wrapping-sub-u64 c = let x = c .args .c in product (x / 67108864) (x / 67108864) (high x (c .pre)) (high x (c .pre))
 
-wrapping-sub-u64-requires : tie.Need-wrapping-sub-u64-requires
-wrapping-sub-u64-requires c κs = search needs
-
-returns : tie.Need-returns
-returns c = search needs
-
-mul-wrapping-sub-u64-2 : tie.Need-mul-wrapping-sub-u64-2
-mul-wrapping-sub-u64-2 c = search needs
-
 mul-wrapping-sub-u64-3 : tie.Need-mul-wrapping-sub-u64-3
 mul-wrapping-sub-u64-3 c = let s = c .before .before in product (s .args .c / 67108864) (s .args .c % 67108864) (high (s .args .c) (s .pre)) (low (s .args .c))
 
-wrapping-sub-u64-requires-2 : tie.Need-wrapping-sub-u64-requires-2
-wrapping-sub-u64-requires-2 c κs = search needs
-
-returns-2 : tie.Need-returns-2
-returns-2 c = search needs
-
-mul-wrapping-sub-u64-4 : tie.Need-mul-wrapping-sub-u64-4
-mul-wrapping-sub-u64-4 c = search needs
-
 mul-wrapping-sub-u64-5 : tie.Need-mul-wrapping-sub-u64-5
 mul-wrapping-sub-u64-5 c = let x = c .before .before .before .before .args .c in product (x % 67108864) (x % 67108864) (low x) (low x)
-
-wrapping-sub-u64-requires-3 : tie.Need-wrapping-sub-u64-requires-3
-wrapping-sub-u64-requires-3 c κs = search needs
 
 returns-3 : tie.Need-returns-3
 returns-3 c =
@@ -54,13 +33,13 @@ excess-spec =
     tie.close
     (tie.spec
     mul-wrapping-sub-u64
-    wrapping-sub-u64-requires
-    returns
-    mul-wrapping-sub-u64-2
+    (λ c κs. search needs)
+    (λ c. search needs)
+    (λ c. search needs)
     mul-wrapping-sub-u64-3
-    wrapping-sub-u64-requires-2
-    returns-2
-    mul-wrapping-sub-u64-4
+    (λ c κs. search needs)
+    (λ c. search needs)
+    (λ c. search needs)
     mul-wrapping-sub-u64-5
-    wrapping-sub-u64-requires-3
+    (λ c κs. search needs)
     returns-3)

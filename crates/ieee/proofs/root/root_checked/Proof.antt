@@ -6,30 +6,6 @@ use borrow.Author.Needs.{needs}
 use Rattle.ieee.proofs.root.root_checked.Statement.{statement}
 use Rattle.ieee.proofs.root.root_checked.Tie as tie
 
-excess-requires : tie.Need-excess-requires
-excess-requires c κs = search needs
-
-mul-if1 : tie.Need-mul-if1
-mul-if1 c = search needs
-
-add-if1 : tie.Need-add-if1
-add-if1 c = search needs
-
-root-slow-requires : tie.Need-root-slow-requires
-root-slow-requires c κs = search needs
-
-returns : tie.Need-returns
-returns c = search needs
-
-add-r : tie.Need-add-r
-add-r c = search needs
-
-mul-if3 : tie.Need-mul-if3
-mul-if3 c = search needs
-
-add-if3 : tie.Need-add-if3
-add-if3 c = search needs
-
 add-r-2 : tie.Need-add-r-2
 add-r-2 c = ⊎-elim (λ w. omega arith) (λ w. omega arith) (c .before .before .if2 .came)
 
@@ -59,14 +35,14 @@ pub root-checked-spec : {M : Type 1} → statement M
 root-checked-spec =
     tie.close
     (tie.spec
-    excess-requires
-    mul-if1
-    add-if1
-    root-slow-requires
-    returns
-    add-r
-    mul-if3
-    add-if3
+    (λ c κs. search needs)
+    (λ c. search needs)
+    (λ c. search needs)
+    (λ c κs. search needs)
+    (λ c. search needs)
+    (λ c. search needs)
+    (λ c. search needs)
+    (λ c. search needs)
     add-r-2
     returns-2
     returns-3)

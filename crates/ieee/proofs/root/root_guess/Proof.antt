@@ -7,20 +7,8 @@ use borrow.Author.Needs.{needs}
 use Rattle.ieee.proofs.root.root_guess.Statement.{statement}
 use Rattle.ieee.proofs.root.root_guess.Tie as tie
 
-add-i : tie.Need-add-i
-add-i c = search needs
-
-mul-i : tie.Need-mul-i
-mul-i c = search needs
-
-add-i-2 : tie.Need-add-i-2
-add-i-2 c = search needs
-
 float-from-bits-t : tie.Need-float-from-bits-t
 float-from-bits-t c = no-nan-bits ((1022 + c .args .p) * 4503599627370496 + c .args .v) (omega arith)
-
-sub-x : tie.Need-sub-x
-sub-x c = search needs
 
 float-from-bits-x : tie.Need-float-from-bits-x
 float-from-bits-x c = no-nan-bits (6909647675743469568 - ((1022 + c .args .p) * 4503599627370496 + c .args .v) / 2) (omega arith)
@@ -28,26 +16,17 @@ float-from-bits-x c = no-nan-bits (6909647675743469568 - ((1022 + c .args .p) * 
 float-to-bits-wrapping-sub-u64 : tie.Need-float-to-bits-wrapping-sub-u64
 float-to-bits-wrapping-sub-u64 c = not-nan _ (lt-some-right _ _ (c .if1 .taken))
 
-wrapping-sub-u64-requires : tie.Need-wrapping-sub-u64-requires
-wrapping-sub-u64-requires c κs = search needs
-
-returns : tie.Need-returns
-returns c = search needs
-
-returns-2 : tie.Need-returns-2
-returns-2 c = search needs
-
 pub root-guess-spec : {M : Type 1} → statement M
 root-guess-spec =
     tie.close
     (tie.spec
-    add-i
-    mul-i
-    add-i-2
+    (λ c. search needs)
+    (λ c. search needs)
+    (λ c. search needs)
     float-from-bits-t
-    sub-x
+    (λ c. search needs)
     float-from-bits-x
     float-to-bits-wrapping-sub-u64
-    wrapping-sub-u64-requires
-    returns
-    returns-2)
+    (λ c κs. search needs)
+    (λ c. search needs)
+    (λ c. search needs))

@@ -24,15 +24,6 @@ root-scaled-requires c κs = moved-scaled (c .before .args .b) (c .before .pre .
 returns : tie.Need-returns
 returns c = let b = c .before .before .args .b in c .root-scaled .ensures (bitUnits b) (moved-value b (c .before .before .pre .0) (c .before .if1 .taken))
 
-add-root-scaled : tie.Need-add-root-scaled
-add-root-scaled c = search needs
-
-add-root-scaled-2 : tie.Need-add-root-scaled-2
-add-root-scaled-2 c = search needs
-
-root-scaled-requires-2 : tie.Need-root-scaled-requires-2
-root-scaled-requires-2 c κs = search needs
-
 returns-2 : tie.Need-returns-2
 returns-2 c = let b = c .before .before .args .b in c .root-scaled2 .ensures (bitUnits b) (normal-value b (c .before .if1 .left))
 
@@ -46,7 +37,7 @@ root-positive-spec =
     sub-root-scaled-2
     root-scaled-requires
     returns
-    add-root-scaled
-    add-root-scaled-2
-    root-scaled-requires-2
+    (λ c. search needs)
+    (λ c. search needs)
+    (λ c κs. search needs)
     returns-2)

@@ -6,20 +6,11 @@ use borrow.Author.Needs.{needs}
 use Rattle.ieee.proofs.root.root_scaled.Statement.{statement}
 use Rattle.ieee.proofs.root.root_scaled.Tie as tie
 
-add-root-checked : tie.Need-add-root-checked
-add-root-checked c = search needs
-
 mul-root-checked : tie.Need-mul-root-checked
 mul-root-checked c = let h = scaled-range (c .args .v) (c .args .g) (c .pre) in omega arith
 
-root-guess-requires : tie.Need-root-guess-requires
-root-guess-requires c κs = search needs
-
 root-checked-requires : tie.Need-root-checked-requires
 root-checked-requires c κs = let h = scaled-range (c .before .args .v) (c .before .args .g) (c .before .pre) in omega arith
-
-mul-result : tie.Need-mul-result
-mul-result c = search needs
 
 add-result : tie.Need-add-result
 add-result c = let s = c .before .before in let h = scaled-bits (s .args .v) (s .args .g) (c .root-checked .result) (s .pre) (c .root-checked .ensures) in omega arith
@@ -34,11 +25,11 @@ pub root-scaled-spec : {M : Type 1} → statement M
 root-scaled-spec =
     tie.close
     (tie.spec
-    add-root-checked
+    (λ c. search needs)
     mul-root-checked
-    root-guess-requires
+    (λ c κs. search needs)
     root-checked-requires
-    mul-result
+    (λ c. search needs)
     add-result
     float-from-bits-result
     returns)

@@ -7,9 +7,6 @@ use borrow.Author.Needs.{needs}
 use Rattle.ieee.proofs.root.root_slow.Statement.{statement}
 use Rattle.ieee.proofs.root.root_slow.Tie as tie
 
-root-bits-requires : tie.Need-root-bits-requires
-root-bits-requires c κs = search needs
-
 add-result : tie.Need-add-result
 add-result c = let m = c .before .args .m in let h = root-lt (m * 2 ^ 54) (c .root-bits .result) (2 ^ 54) (c .root-bits .ensures) (omega arith) in omega arith
 
@@ -17,4 +14,4 @@ returns : tie.Need-returns
 returns c = rounded-slow (c .before .args .m) (c .root-bits .result) (c .before .pre .0) (c .root-bits .ensures)
 
 pub root-slow-spec : {M : Type 1} → statement M
-root-slow-spec = tie.close (tie.spec root-bits-requires add-result returns)
+root-slow-spec = tie.close (tie.spec (λ c κs. search needs) add-result returns)

@@ -9,17 +9,8 @@ use Rattle.ieee.proofs.threshold.from_guess.Tie as tie
 returns : tie.Need-returns
 returns c = none-first (c .before .args .b)
 
-reaches-requires : tie.Need-reaches-requires
-reaches-requires c κs = search needs
-
 returns-2 : tie.Need-returns-2
 returns-2 c = none-first (c .before .before .before .before .args .b)
-
-sub-reaches : tie.Need-sub-reaches
-sub-reaches c = search needs
-
-reaches-requires-2 : tie.Need-reaches-requires-2
-reaches-requires-2 c κs = search needs
 
 returns-3 : tie.Need-returns-3
 returns-3 c = none-first (c .before .before .before .before .before .before .args .b)
@@ -33,15 +24,6 @@ returns-4 c =
 
 returns-5 : tie.Need-returns-5
 returns-5 c = none-first (c .before .before .before .before .args .b)
-
-add-reaches : tie.Need-add-reaches
-add-reaches c = search needs
-
-reaches-requires-3 : tie.Need-reaches-requires-3
-reaches-requires-3 c κs = search needs
-
-add-result : tie.Need-add-result
-add-result c = search needs
 
 -- the root at n does not reach b, and the one after it does
 returns-6 : tie.Need-returns-6
@@ -58,15 +40,15 @@ from-guess-spec =
     tie.close
     (tie.spec
     returns
-    reaches-requires
+    (λ c κs. search needs)
     returns-2
-    sub-reaches
-    reaches-requires-2
+    (λ c. search needs)
+    (λ c κs. search needs)
     returns-3
     returns-4
     returns-5
-    add-reaches
-    reaches-requires-3
-    add-result
+    (λ c. search needs)
+    (λ c κs. search needs)
+    (λ c. search needs)
     returns-6
     returns-7)

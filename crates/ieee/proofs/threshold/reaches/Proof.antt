@@ -9,11 +9,8 @@ use Rattle.ieee.proofs.threshold.reaches.Tie as tie
 float-from-bits-root : tie.Need-float-from-bits-root
 float-from-bits-root c = no-nan-bits (c .args .n) (c .pre)
 
-root-requires : tie.Need-root-requires
-root-requires c κs = search needs
-
 returns : tie.Need-returns
 returns c = ap (le (c .before .args .b)) (c .root .ensures)
 
 pub reaches-spec : {M : Type 1} → statement M
-reaches-spec = tie.close (tie.spec float-from-bits-root root-requires returns)
+reaches-spec = tie.close (tie.spec float-from-bits-root (λ c κs. search needs) returns)

@@ -46,9 +46,6 @@ float-to-bits-from-guess c =
     let q = mul binary64 b (ofBits binary64 (toBits binary64 b - 1)) in
     not-nan q (le-some-right (ofBits binary64 0) q (c .if3 .taken))
 
-from-guess-requires : tie.Need-from-guess-requires
-from-guess-requires c κs = search needs
-
 float-from-bits-result : tie.Need-float-from-bits-result
 float-from-bits-result c = no-nan-bits (c .before .from-guess .result) (c .before .from-guess .ensures (c .if4 .taken) .range)
 
@@ -80,7 +77,7 @@ root-threshold-spec =
     sub-q
     float-from-bits-q
     float-to-bits-from-guess
-    from-guess-requires
+    (λ c κs. search needs)
     float-from-bits-result
     returns-3
     bisect-requires

@@ -15,20 +15,14 @@ float-to-bits-n c = not-nan _ (rounded-some (c .before .before .args .x) (c .bef
 sub-n : tie.Need-sub-n
 sub-n c = bits-least (c .before .before .args .x) (c .before .if1 .taken) (c .if2 .taken)
 
-cast-result : tie.Need-cast-result
-cast-result c = search needs
-
 sub-result : tie.Need-sub-result
 sub-result c = let e = floor-column (c .before .before .args .x) (c .before .if1 .taken) (c .if2 .taken) in omega arith
 
 returns : tie.Need-returns
 returns c = let e = floor-column (c .before .before .args .x) (c .before .if1 .taken) (c .if2 .taken) in omega arith
 
-column-beyond-requires : tie.Need-column-beyond-requires
-column-beyond-requires c κs = search needs
-
 returns-2 : tie.Need-returns-2
 returns-2 c = c .column-beyond .ensures ∙ beyond-column true (c .before .before .args .x) (⊎-elim (λ w. inr (w .1 .left)) (λ w. inl (w .left)) (c .before .if1 .came))
 
 pub column-of-spec : {M : Type 1} → statement M
-column-of-spec = tie.close (tie.spec float-to-bits-n sub-n cast-result sub-result returns column-beyond-requires returns-2)
+column-of-spec = tie.close (tie.spec float-to-bits-n sub-n (λ c. search needs) sub-result returns (λ c κs. search needs) returns-2)

@@ -17,9 +17,6 @@ float-to-bits-n c = not-nan _ (rounded-some (c .before .before .args .x) (c .bef
 sub-n : tie.Need-sub-n
 sub-n c = bits-least (c .before .before .args .x) (c .before .if1 .taken) (c .if2 .taken)
 
-cast-result : tie.Need-cast-result
-cast-result c = search needs
-
 add-result : tie.Need-add-result
 add-result c =
     let e = ceil-column (c .before .before .args .x) (c .before .if1 .taken) (c .if2 .taken) in
@@ -29,11 +26,8 @@ add-result c =
 returns : tie.Need-returns
 returns c = ceil-column (c .before .before .args .x) (c .before .if1 .taken) (c .if2 .taken)
 
-column-beyond-requires : tie.Need-column-beyond-requires
-column-beyond-requires c κs = search needs
-
 returns-2 : tie.Need-returns-2
 returns-2 c = c .column-beyond .ensures ∙ beyond-column false (c .before .before .args .x) (⊎-elim (λ w. inr (w .1 .left)) (λ w. inl (w .left)) (c .before .if1 .came))
 
 pub column-up-spec : {M : Type 1} → statement M
-column-up-spec = tie.close (tie.spec float-to-bits-n sub-n cast-result add-result returns column-beyond-requires returns-2)
+column-up-spec = tie.close (tie.spec float-to-bits-n sub-n (λ c. search needs) add-result returns (λ c κs. search needs) returns-2)

@@ -10,9 +10,6 @@ truncating-f64-to-i64-requires : tie.Need-truncating-f64-to-i64-requires
 unfolding ofBits neg
 truncating-f64-to-i64-requires c κs = (T-true (c .before .if1 .taken), T-true (c .if2 .taken))
 
-returns : tie.Need-returns
-returns c = search needs
-
 returns-2 : tie.Need-returns-2
 unfolding ofBits neg
 returns-2 c = cut-high (c .before .before .args .x) (c .before .if1 .taken) (c .if2 .left)
@@ -25,4 +22,4 @@ unfolding ofBits neg
 returns-4 c = cut-low (c .before .before .args .x) (c .before .if1 .left) (c .if3 .left)
 
 pub cut-to-i64-spec : {M : Type 1} → statement M
-cut-to-i64-spec = tie.close (tie.spec truncating-f64-to-i64-requires returns returns-2 returns-3 returns-4)
+cut-to-i64-spec = tie.close (tie.spec truncating-f64-to-i64-requires (λ c. search needs) returns-2 returns-3 returns-4)

@@ -14,12 +14,6 @@ returns c = λ b e. let a = c .before .args in sees-column (a .p) (a .q) b (c .i
 returns-2 : tie.Need-returns-2
 returns-2 c = λ b e. let a = c .before .before .args in sees-row (a .p) (a .q) b (c .before .if1 .left) (c .if2 .taken)
 
-quadrant-requires : tie.Need-quadrant-requires
-quadrant-requires c κs = search needs
-
-get-requires : tie.Need-get-requires
-get-requires c κs = search needs
-
 returns-3 : tie.Need-returns-3
 returns-3 c = λ b e.
     let n = c .before .before in
@@ -27,4 +21,4 @@ returns-3 c = λ b e.
     ap not (c .get .ensures b e ∙ ap (λ (d : Dir). bit d b) (c .before .quadrant .ensures)) ∙ sees-quadrant (a .p) (a .q) b (n .before .if1 .left) (n .if2 .left)
 
 pub sees-spec : {M : Type 1} → statement M
-sees-spec = tie.close (tie.spec returns returns-2 quadrant-requires get-requires returns-3)
+sees-spec = tie.close (tie.spec returns returns-2 (λ c κs. search needs) (λ c κs. search needs) returns-3)

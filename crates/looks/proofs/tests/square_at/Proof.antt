@@ -6,12 +6,6 @@ use Rattle.looks.proofs.TestLaws.{square-key}
 use Rattle.looks.proofs.tests.square_at.Statement.{statement}
 use Rattle.looks.proofs.tests.square_at.Tie as tie
 
-centre-requires : tie.Need-centre-requires
-centre-requires c κs = search needs
-
-search-requires : tie.Need-search-requires
-search-requires c κs = search needs
-
 returns : tie.Need-returns
 unfolding ofBits
 returns c =
@@ -20,4 +14,4 @@ returns c =
     λ a i. square-key (s .size) (s .radius) (s .cells .now) (s .k) (pt (p .centre .result)) (c .search .result) (p .centre .ensures) (c .search .ensures a i)
 
 pub square-at-spec : {M : Type 1} → statement M
-square-at-spec = tie.close (tie.spec centre-requires search-requires returns)
+square-at-spec = tie.close (tie.spec (λ c κs. search needs) (λ c κs. search needs) returns)

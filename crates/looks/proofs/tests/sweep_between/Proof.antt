@@ -6,15 +6,6 @@ use Rattle.looks.proofs.TestLaws.{sweep-key}
 use Rattle.looks.proofs.tests.sweep_between.Statement.{statement}
 use Rattle.looks.proofs.tests.sweep_between.Tie as tie
 
-centre-requires : tie.Need-centre-requires
-centre-requires c κs = search needs
-
-centre-requires-2 : tie.Need-centre-requires-2
-centre-requires-2 c κs = search needs
-
-search-requires : tie.Need-search-requires
-search-requires c κs = search needs
-
 returns : tie.Need-returns
 unfolding ofBits
 returns c =
@@ -25,4 +16,4 @@ returns c =
 
 pub sweep-between-spec : {M : Type 1} → statement M
 sweep-between-spec =
-    tie.close (tie.spec centre-requires centre-requires-2 search-requires returns)
+    tie.close (tie.spec (λ c κs. search needs) (λ c κs. search needs) (λ c κs. search needs) returns)

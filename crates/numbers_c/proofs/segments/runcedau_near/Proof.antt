@@ -7,16 +7,10 @@ use Rattle.segment.specs.Values.{seg}
 use Rattle.numbers_c.proofs.segments.runcedau_near.Statement.{statement}
 use Rattle.numbers_c.proofs.segments.runcedau_near.Tie as tie
 
-key-requires : tie.Need-key-requires
-key-requires c κs = search needs
-
-passes-near-cell-requires : tie.Need-passes-near-cell-requires
-passes-near-cell-requires c κs = search needs
-
 returns : tie.Need-returns
 returns c =
     let a = c .before .before .args in
     c .passes-near-cell .ensures ∙ ap (λ (k : ℕ). passesNear (seg (a .s)) k (a .size) (a .radius)) (c .before .key .ensures)
 
 pub runcedau-near-spec : {M : Type 1} → statement M
-runcedau-near-spec = tie.close (tie.spec key-requires passes-near-cell-requires returns)
+runcedau-near-spec = tie.close (tie.spec (λ c κs. search needs) (λ c κs. search needs) returns)

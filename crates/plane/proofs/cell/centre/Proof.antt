@@ -7,15 +7,9 @@ use mathlib.Core.Path.{refl}
 use Rattle.plane.proofs.cell.centre.Statement.{statement}
 use Rattle.plane.proofs.cell.centre.Tie as tie
 
-column-requires : tie.Need-column-requires
-column-requires c κs = search needs
-
-column-requires-2 : tie.Need-column-requires-2
-column-requires-2 c κs = search needs
-
 returns : tie.Need-returns
 unfolding centre centreF ofBits
 returns c = rw (c .before .column .ensures, c .column2 .ensures) refl
 
 pub centre-spec : {M : Type 1} → statement M
-centre-spec = tie.close (tie.spec column-requires column-requires-2 returns)
+centre-spec = tie.close (tie.spec (λ c κs. search needs) (λ c κs. search needs) returns)

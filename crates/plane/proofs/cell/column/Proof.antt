@@ -12,9 +12,6 @@ use Rattle.ieee.proofs.Unbiased.{column-back, column-fits, column-exact}
 use Rattle.plane.proofs.cell.column.Statement.{statement}
 use Rattle.plane.proofs.cell.column.Tie as tie
 
-cast-result : tie.Need-cast-result
-cast-result c = search needs
-
 sub-result : tie.Need-sub-result
 sub-result c = subst (λ (z : ℤ). SFits w64 z) (sym (column-back (c .args .n) (c .pre))) (column-fits (c .args .n) (c .pre))
 
@@ -29,4 +26,4 @@ returns : tie.Need-returns
 returns c = ap (ofInt binary64) (read (c .before))
 
 pub column-spec : {M : Type 1} → statement M
-column-spec = tie.close (tie.spec cast-result sub-result int-to-float-result returns)
+column-spec = tie.close (tie.spec (λ c. search needs) sub-result int-to-float-result returns)

@@ -7,18 +7,6 @@ use Rattle.ieee.proofs.Unbiased.{column-next}
 use Rattle.plane.proofs.cell.corner.Statement.{statement}
 use Rattle.plane.proofs.cell.corner.Tie as tie
 
-add-edge : tie.Need-add-edge
-add-edge c = search needs
-
-edge-requires : tie.Need-edge-requires
-edge-requires c κs = search needs
-
-add-edge-2 : tie.Need-add-edge-2
-add-edge-2 c = search needs
-
-edge-requires-2 : tie.Need-edge-requires-2
-edge-requires-2 c κs = search needs
-
 returns : tie.Need-returns
 unfolding lowCorner
 returns c =
@@ -26,4 +14,4 @@ returns c =
     rw (c .before .edge .ensures, c .edge2 .ensures, column-next (a .cell / 4294967296) (a .i / 2 % 2), column-next (a .cell % 4294967296) (a .i % 2)) refl
 
 pub corner-spec : {M : Type 1} → statement M
-corner-spec = tie.close (tie.spec add-edge edge-requires add-edge-2 edge-requires-2 returns)
+corner-spec = tie.close (tie.spec (λ c. search needs) (λ c κs. search needs) (λ c. search needs) (λ c κs. search needs) returns)

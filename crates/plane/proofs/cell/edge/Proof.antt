@@ -5,11 +5,8 @@ use mathlib.Core.Path.{ap}
 use Rattle.plane.proofs.cell.edge.Statement.{statement}
 use Rattle.plane.proofs.cell.edge.Tie as tie
 
-column-requires : tie.Need-column-requires
-column-requires c κs = search needs
-
 returns : tie.Need-returns
 returns c = ap (mul binary64 (c .before .args .size)) (c .column .ensures)
 
 pub edge-spec : {M : Type 1} → statement M
-edge-spec = tie.close (tie.spec column-requires returns)
+edge-spec = tie.close (tie.spec (λ c κs. search needs) returns)

@@ -15,44 +15,17 @@ returns c =
     let h : length (a .batch .now) < a .used + 3 = omega arith in
     no-room (a .batch .now) (a .used) (a .x) (a .y) (a .full) h
 
-sub-if2 : tie.Need-sub-if2
-sub-if2 c = search needs
-
 returns-2 : tie.Need-returns-2
 returns-2 c =
     let a = c .before .before .args in
     let h : length (a .batch .now) < a .used + 3 = omega arith in
     no-room (a .batch .now) (a .used) (a .x) (a .y) (a .full) h
 
-mul-x : tie.Need-mul-x
-mul-x c = search needs
-
-slice-set-from-x : tie.Need-slice-set-from-x
-slice-set-from-x c = search needs
-
-add-y : tie.Need-add-y
-add-y c = search needs
-
-mul-y : tie.Need-mul-y
-mul-y c = search needs
-
 slice-set-from-y : tie.Need-slice-set-from-y
 slice-set-from-y c = rw length-set (omega arith)
 
-add-full : tie.Need-add-full
-add-full c = search needs
-
-mul-full : tie.Need-mul-full
-mul-full c = search needs
-
 slice-set-from-full : tie.Need-slice-set-from-full
 slice-set-from-full c = rw (length-set, length-set) (omega arith)
-
-add-result : tie.Need-add-result
-add-result c = search needs
-
-same-length : tie.Need-same-length
-same-length c = search needs
 
 returns-3 : tie.Need-returns-3
 returns-3 c =
@@ -66,16 +39,16 @@ enter-spec =
     tie.close
     (tie.spec
     returns
-    sub-if2
+    (λ c. search needs)
     returns-2
-    mul-x
-    slice-set-from-x
-    add-y
-    mul-y
+    (λ c. search needs)
+    (λ c. search needs)
+    (λ c. search needs)
+    (λ c. search needs)
     slice-set-from-y
-    add-full
-    mul-full
+    (λ c. search needs)
+    (λ c. search needs)
     slice-set-from-full
-    add-result
-    same-length
+    (λ c. search needs)
+    (λ c. search needs)
     returns-3)

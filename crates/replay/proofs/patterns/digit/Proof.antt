@@ -7,17 +7,8 @@ use Rattle.replay.proofs.PatternLaws.{letter, decimal, neither}
 use Rattle.replay.proofs.patterns.digit.Statement.{statement}
 use Rattle.replay.proofs.patterns.digit.Tie as tie
 
-cast-result : tie.Need-cast-result
-cast-result c = search needs
-
-add-result : tie.Need-add-result
-add-result c = search needs
-
 returns : tie.Need-returns
 returns c = (letter (c .before .before .args .b) (c .before .if1 .taken) (c .if2 .taken), omega arith)
-
-cast-result-2 : tie.Need-cast-result-2
-cast-result-2 c = search needs
 
 returns-2 : tie.Need-returns-2
 returns-2 c = (decimal (c .before .before .before .args .b) (c .before .if3 .taken) (c .if4 .taken), omega arith)
@@ -33,4 +24,4 @@ returns-4 c = (neither (c .before .before .args .b) (no-letter (c .before)) (inl
 
 pub digit-spec : {M : Type 1} → statement M
 digit-spec =
-    tie.close (tie.spec cast-result add-result returns cast-result-2 returns-2 returns-3 returns-4)
+    tie.close (tie.spec (λ c. search needs) (λ c. search needs) returns (λ c. search needs) returns-2 returns-3 returns-4)

@@ -5,14 +5,8 @@ use Rattle.replay.specs.Patterns.{floatOf}
 use Rattle.replay.proofs.patterns.float_at.Statement.{statement}
 use Rattle.replay.proofs.patterns.float_at.Tie as tie
 
-pattern-at-requires : tie.Need-pattern-at-requires
-pattern-at-requires c κs = search needs
-
-float-of-requires : tie.Need-float-of-requires
-float-of-requires c κs = search needs
-
 returns : tie.Need-returns
 returns c = c .float-of .ensures ∙ ap floatOf (c .before .pattern-at .ensures)
 
 pub float-at-spec : {M : Type 1} → statement M
-float-at-spec = tie.close (tie.spec pattern-at-requires float-of-requires returns)
+float-at-spec = tie.close (tie.spec (λ c κs. search needs) (λ c κs. search needs) returns)

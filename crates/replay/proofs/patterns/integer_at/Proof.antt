@@ -8,12 +8,6 @@ use Rattle.replay.specs.Patterns.{integerOf}
 use Rattle.replay.proofs.patterns.integer_at.Statement.{statement}
 use Rattle.replay.proofs.patterns.integer_at.Tie as tie
 
-pattern-at-requires : tie.Need-pattern-at-requires
-pattern-at-requires c κs = search needs
-
-integer-of-requires : tie.Need-integer-of-requires
-integer-of-requires c κs = search needs
-
 returns : tie.Need-returns
 returns c =
     let z = c .integer-of .result in
@@ -21,4 +15,4 @@ returns c =
     toZ-ofZ w64 z h ∙ c .integer-of .ensures ∙ ap integerOf (c .before .pattern-at .ensures)
 
 pub integer-at-spec : {M : Type 1} → statement M
-integer-at-spec = tie.close (tie.spec pattern-at-requires integer-of-requires returns)
+integer-at-spec = tie.close (tie.spec (λ c κs. search needs) (λ c κs. search needs) returns)

@@ -34,17 +34,8 @@ high n h l =
     toZ-ofZ w64 (negsuc 0 -ℤ toZ w64 k) (fits k b) ∙ turned k b ∙ rw (le-ltb n (2 ^ 63) h) refl
 
 -- ---- the function
-cast-result : tie.Need-cast-result
-cast-result c = search needs
-
 returns : tie.Need-returns
 returns c = low (c .before .args .pattern) (c .if1 .taken)
-
-sub-result : tie.Need-sub-result
-sub-result c = search needs
-
-cast-result-2 : tie.Need-cast-result-2
-cast-result-2 c = search needs
 
 sub-result-2 : tie.Need-sub-result-2
 sub-result-2 c = fits (18446744073709551615 - c .before .args .pattern) (omega arith)
@@ -54,4 +45,4 @@ returns-2 c = high (c .before .args .pattern) (c .if1 .left) (omega arith)
 
 pub integer-of-spec : {M : Type 1} → statement M
 integer-of-spec =
-    tie.close (tie.spec cast-result returns sub-result cast-result-2 sub-result-2 returns-2)
+    tie.close (tie.spec (λ c. search needs) returns (λ c. search needs) (λ c. search needs) sub-result-2 returns-2)

@@ -4,17 +4,8 @@ use borrow.Author.Needs.{needs}
 use Rattle.replay.proofs.questions.point_at.Statement.{statement}
 use Rattle.replay.proofs.questions.point_at.Tie as tie
 
-float-at-requires : tie.Need-float-at-requires
-float-at-requires c κs = search needs
-
-add-float-at : tie.Need-add-float-at
-add-float-at c = search needs
-
-float-at-requires-2 : tie.Need-float-at-requires-2
-float-at-requires-2 c κs = search needs
-
 returns : tie.Need-returns
 returns c = rw (← c .before .float-at .ensures, ← c .float-at2 .ensures) refl
 
 pub point-at-spec : {M : Type 1} → statement M
-point-at-spec = tie.close (tie.spec float-at-requires add-float-at float-at-requires-2 returns)
+point-at-spec = tie.close (tie.spec (λ c κs. search needs) (λ c. search needs) (λ c κs. search needs) returns)

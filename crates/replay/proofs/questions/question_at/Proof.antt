@@ -9,21 +9,6 @@ use Rattle.replay.specs.Lines.{pointAt, shaped}
 use Rattle.replay.proofs.questions.question_at.Statement.{statement}
 use Rattle.replay.proofs.questions.question_at.Tie as tie
 
-point-at-requires : tie.Need-point-at-requires
-point-at-requires c κs = search needs
-
-point-at-requires-2 : tie.Need-point-at-requires-2
-point-at-requires-2 c κs = search needs
-
-float-at-requires : tie.Need-float-at-requires
-float-at-requires c κs = search needs
-
-float-at-requires-2 : tie.Need-float-at-requires-2
-float-at-requires-2 c κs = search needs
-
-shape-of-requires : tie.Need-shape-of-requires
-shape-of-requires c κs = search needs
-
 returns : tie.Need-returns
 returns c =
     let w = c .before in
@@ -39,4 +24,4 @@ returns c =
     ∙ ap (λ (x : Float). shaped (a .letter) (pointAt l 2) (pointAt l 36) (floatOf (patternAt l 36)) x) (w .float-at2 .ensures)
 
 pub question-at-spec : {M : Type 1} → statement M
-question-at-spec = tie.close (tie.spec point-at-requires point-at-requires-2 float-at-requires float-at-requires-2 shape-of-requires returns)
+question-at-spec = tie.close (tie.spec (λ c κs. search needs) (λ c κs. search needs) (λ c κs. search needs) (λ c κs. search needs) (λ c κs. search needs) returns)

@@ -6,12 +6,6 @@ use mathlib.Core.Path.{_≡_, refl, sym, _∙_}
 use Rattle.segment.proofs.meets.inside.Statement.{statement}
 use Rattle.segment.proofs.meets.inside.Tie as tie
 
-within-requires : tie.Need-within-requires
-within-requires c κs = search needs
-
-within-requires-2 : tie.Need-within-requires-2
-within-requires-2 c κs = search needs
-
 returns : tie.Need-returns
 returns c =
     let a = c .before .before .before .args in
@@ -25,4 +19,4 @@ returns-2 c =
     rw h refl
 
 pub inside-spec : {M : Type 1} → statement M
-inside-spec = tie.close (tie.spec within-requires within-requires-2 returns returns-2)
+inside-spec = tie.close (tie.spec (λ c κs. search needs) (λ c κs. search needs) returns returns-2)

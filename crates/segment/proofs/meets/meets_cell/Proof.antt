@@ -47,37 +47,19 @@ no3 c = sym (third (c .before)) ∙ c .if3 .left
 no4 : (c : tie.Else4) → let a = at4 (c .before) .args in Upright (seg (a .s)) (pt (a .a)) (pt (a .b)) (a .b .x) ≡ false
 no4 c = sym (fourth (c .before)) ∙ c .if4 .left
 
-inside-requires : tie.Need-inside-requires
-inside-requires c κs = search needs
-
 returns : tie.Need-returns
 returns c = let a = at1 (c .before) .args in meets-1 (seg (a .s)) (pt (a .a)) (pt (a .b)) (sym (c .before .inside .ensures) ∙ c .if1 .taken)
-
-inside-requires-2 : tie.Need-inside-requires-2
-inside-requires-2 c κs = search needs
 
 returns-2 : tie.Need-returns-2
 returns-2 c =
     let a = at2 (c .before) .args in
     meets-2 (seg (a .s)) (pt (a .a)) (pt (a .b)) (no1 (c .before .before)) (sym (c .before .inside2 .ensures) ∙ c .if2 .taken)
 
-vertical-intersect-requires : tie.Need-vertical-intersect-requires
-vertical-intersect-requires c κs = search needs
-
-one-within-requires : tie.Need-one-within-requires
-one-within-requires c κs = search needs
-
 returns-3 : tie.Need-returns-3
 returns-3 c =
     let a = at3 (c .before) .args in
     let e2 = c .before .before .before in
     meets-3 (seg (a .s)) (pt (a .a)) (pt (a .b)) (no1 (e2 .before .before)) (no2 e2) (sym (third (c .before)) ∙ c .if3 .taken)
-
-vertical-intersect-requires-2 : tie.Need-vertical-intersect-requires-2
-vertical-intersect-requires-2 c κs = search needs
-
-one-within-requires-2 : tie.Need-one-within-requires-2
-one-within-requires-2 c κs = search needs
 
 returns-4 : tie.Need-returns-4
 returns-4 c =
@@ -86,12 +68,6 @@ returns-4 c =
     let e2 = e3 .before .before .before in
     meets-4 (seg (a .s)) (pt (a .a)) (pt (a .b)) (no1 (e2 .before .before)) (no2 e2) (no3 e3) (sym (fourth (c .before)) ∙ c .if4 .taken)
 
-horizontal-intersect-requires : tie.Need-horizontal-intersect-requires
-horizontal-intersect-requires c κs = search needs
-
-one-within-requires-3 : tie.Need-one-within-requires-3
-one-within-requires-3 c κs = search needs
-
 returns-5 : tie.Need-returns-5
 returns-5 c =
     let a = at5 (c .before) .args in
@@ -99,12 +75,6 @@ returns-5 c =
     let e3 = e4 .before .before .before in
     let e2 = e3 .before .before .before in
     meets-5 (seg (a .s)) (pt (a .a)) (pt (a .b)) (no1 (e2 .before .before)) (no2 e2) (no3 e3) (no4 e4) (sym (fifth (c .before)) ∙ c .if5 .taken)
-
-horizontal-intersect-requires-2 : tie.Need-horizontal-intersect-requires-2
-horizontal-intersect-requires-2 c κs = search needs
-
-one-within-requires-4 : tie.Need-one-within-requires-4
-one-within-requires-4 c κs = search needs
 
 returns-6 : tie.Need-returns-6
 returns-6 c =
@@ -120,19 +90,19 @@ pub meets-cell-spec : {M : Type 1} → statement M
 meets-cell-spec =
     tie.close
     (tie.spec
-    inside-requires
+    (λ c κs. search needs)
     returns
-    inside-requires-2
+    (λ c κs. search needs)
     returns-2
-    vertical-intersect-requires
-    one-within-requires
+    (λ c κs. search needs)
+    (λ c κs. search needs)
     returns-3
-    vertical-intersect-requires-2
-    one-within-requires-2
+    (λ c κs. search needs)
+    (λ c κs. search needs)
     returns-4
-    horizontal-intersect-requires
-    one-within-requires-3
+    (λ c κs. search needs)
+    (λ c κs. search needs)
     returns-5
-    horizontal-intersect-requires-2
-    one-within-requires-4
+    (λ c κs. search needs)
+    (λ c κs. search needs)
     returns-6)

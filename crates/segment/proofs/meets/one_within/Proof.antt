@@ -8,9 +8,6 @@ use Rattle.segment.proofs.meets.one_within.Tie as tie
 returns : tie.Need-returns
 returns c = let a = c .before .before .args in none-there (a .low) (a .high) (a .v) (c .if1 .taken)
 
-within-requires : tie.Need-within-requires
-within-requires c κs = search needs
-
 returns-2 : tie.Need-returns-2
 returns-2 c =
     let a = c .before .before .before .before .args in
@@ -22,9 +19,6 @@ returns-3 c =
     let a = e .before .before .before .before .args in
     no-second (a .low) (a .high) (a .v) (e .before .before .if1 .left) (sym (e .before .within .ensures) ∙ e .if2 .left) (c .if3 .taken)
 
-within-requires-2 : tie.Need-within-requires-2
-within-requires-2 c κs = search needs
-
 returns-4 : tie.Need-returns-4
 returns-4 c =
     let e = c .before .before .before in
@@ -32,4 +26,4 @@ returns-4 c =
     c .within2 .ensures ∙ second-there (a .low) (a .high) (a .v) (e .before .before .if1 .left) (sym (e .before .within .ensures) ∙ e .if2 .left) (c .before .if3 .left)
 
 pub one-within-spec : {M : Type 1} → statement M
-one-within-spec = tie.close (tie.spec returns within-requires returns-2 returns-3 within-requires-2 returns-4)
+one-within-spec = tie.close (tie.spec returns (λ c κs. search needs) returns-2 returns-3 (λ c κs. search needs) returns-4)

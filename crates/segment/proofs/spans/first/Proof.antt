@@ -10,12 +10,6 @@ use Rattle.segment.specs.Spans.{Below}
 use Rattle.segment.proofs.spans.first.Statement.{statement}
 use Rattle.segment.proofs.spans.first.Tie as tie
 
-min-requires : tie.Need-min-requires
-min-requires c κs = search needs
-
-column-of-requires : tie.Need-column-of-requires
-column-of-requires c κs = search needs
-
 -- no column is beyond the tables'
 column : (c : tie.After-column-of) → c .column-of .result < 2 ^ 32
 column c = rw (c .column-of .ensures) (biased-lt (floorZ _))
@@ -25,9 +19,6 @@ sub-begins c = omega arith
 
 cast-begins : tie.Need-cast-begins
 cast-begins c = let k = column (c .before) in omega arith
-
-begins-requires : tie.Need-begins-requires
-begins-requires c κs = search needs
 
 cast-result : tie.Need-cast-result
 cast-result c = let k = column (c .before .before .before .before .before) in omega arith
@@ -47,4 +38,4 @@ returns-3 : tie.Need-returns-3
 returns-3 c = (λ h. absurd (omega arith), omega arith)
 
 pub first-spec : {M : Type 1} → statement M
-first-spec = tie.close (tie.spec min-requires column-of-requires sub-begins cast-begins begins-requires cast-result returns returns-2 returns-3)
+first-spec = tie.close (tie.spec (λ c κs. search needs) (λ c κs. search needs) sub-begins cast-begins (λ c κs. search needs) cast-result returns returns-2 returns-3)

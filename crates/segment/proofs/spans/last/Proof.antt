@@ -7,12 +7,6 @@ use Rattle.segment.specs.Spans.{Above}
 use Rattle.segment.proofs.spans.last.Statement.{statement}
 use Rattle.segment.proofs.spans.last.Tie as tie
 
-max-requires : tie.Need-max-requires
-max-requires c κs = search needs
-
-column-of-requires : tie.Need-column-of-requires
-column-of-requires c κs = search needs
-
 add-here : tie.Need-add-here
 add-here c = omega arith
 
@@ -21,9 +15,6 @@ add-begins c = omega arith
 
 cast-begins : tie.Need-cast-begins
 cast-begins c = omega arith
-
-begins-requires : tie.Need-begins-requires
-begins-requires c κs = search needs
 
 cast-result : tie.Need-cast-result
 cast-result c = omega arith
@@ -40,4 +31,4 @@ returns-3 : tie.Need-returns-3
 returns-3 c = λ h. absurd (omega arith)
 
 pub last-spec : {M : Type 1} → statement M
-last-spec = tie.close (tie.spec max-requires column-of-requires add-here add-begins cast-begins begins-requires cast-result returns returns-2 returns-3)
+last-spec = tie.close (tie.spec (λ c κs. search needs) (λ c κs. search needs) add-here add-begins cast-begins (λ c κs. search needs) cast-result returns returns-2 returns-3)

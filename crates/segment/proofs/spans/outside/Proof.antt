@@ -6,12 +6,6 @@ use Rattle.segment.proofs.SpanLaws.{wrapped-sign, or-sign}
 use Rattle.segment.proofs.spans.outside.Statement.{statement}
 use Rattle.segment.proofs.spans.outside.Tie as tie
 
-wrapping-sub-u64-requires : tie.Need-wrapping-sub-u64-requires
-wrapping-sub-u64-requires c κs = search needs
-
-wrapping-sub-u64-requires-2 : tie.Need-wrapping-sub-u64-requires-2
-wrapping-sub-u64-requires-2 c κs = search needs
-
 returns : tie.Need-returns
 returns c =
     let s = c .before .before in
@@ -22,4 +16,4 @@ returns c =
     ∙ rw (wrapped-sign (a .n) (a .low) (d .result) (s .fits .n .fits) (s .fits .low .fits) (omega arith) (d .ensures), wrapped-sign (a .high) (a .n) (e .result) (s .fits .high .fits) (s .fits .n .fits) (omega arith) (e .ensures)) refl
 
 pub outside-spec : {M : Type 1} → statement M
-outside-spec = tie.close (tie.spec wrapping-sub-u64-requires wrapping-sub-u64-requires-2 returns)
+outside-spec = tie.close (tie.spec (λ c κs. search needs) (λ c κs. search needs) returns)

@@ -8,18 +8,6 @@ use Rattle.plane.specs.Edge.{edgeOf}
 use Rattle.segment.proofs.spans.span_of.Statement.{statement}
 use Rattle.segment.proofs.spans.span_of.Tie as tie
 
-fall-requires : tie.Need-fall-requires
-fall-requires c κs = search needs
-
-first-requires : tie.Need-first-requires
-first-requires c κs = search needs
-
-rise-requires : tie.Need-rise-requires
-rise-requires c κs = search needs
-
-last-requires : tie.Need-last-requires
-last-requires c κs = search needs
-
 returns : tie.Need-returns
 returns c =
     let a = c .before .before .before .before .args in
@@ -32,4 +20,4 @@ returns c =
     }
 
 pub span-of-spec : {M : Type 1} → statement M
-span-of-spec = tie.close (tie.spec fall-requires first-requires rise-requires last-requires returns)
+span-of-spec = tie.close (tie.spec (λ c κs. search needs) (λ c κs. search needs) (λ c κs. search needs) (λ c κs. search needs) returns)

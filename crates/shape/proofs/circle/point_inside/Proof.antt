@@ -5,15 +5,9 @@ use mathlib.Core.Path.{refl}
 use Rattle.shape.proofs.circle.point_inside.Statement.{statement}
 use Rattle.shape.proofs.circle.point_inside.Tie as tie
 
-minus-requires : tie.Need-minus-requires
-minus-requires c κs = search needs
-
-dot-requires : tie.Need-dot-requires
-dot-requires c κs = search needs
-
 returns : tie.Need-returns
 unfolding pointWithin
 returns c = rw (c .dot .ensures, c .before .minus .ensures) refl
 
 pub point-inside-spec : {M : Type 1} → statement M
-point-inside-spec = tie.close (tie.spec minus-requires dot-requires returns)
+point-inside-spec = tie.close (tie.spec (λ c κs. search needs) (λ c κs. search needs) returns)

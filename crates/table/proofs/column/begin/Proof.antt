@@ -10,15 +10,6 @@ use Rattle.table.proofs.RankLaws.{rank-all}
 use Rattle.table.proofs.column.begin.Statement.{statement}
 use Rattle.table.proofs.column.begin.Tie as tie
 
-mul-place-from : tie.Need-mul-place-from
-mul-place-from c = search needs
-
-place-from-requires : tie.Need-place-from-requires
-place-from-requires c κs = search needs
-
-returns : tie.Need-returns
-returns c = search needs
-
 returns-2 : tie.Need-returns-2
 returns-2 c =
     let s = c .before .before .args in
@@ -26,4 +17,4 @@ returns-2 c =
     (omega arith, λ a. sym (rank-all (s .x * W) (s .t .now) (all-from (λ k. k < s .x * W) (s .t .now) b)))
 
 pub begin-spec : {M : Type 1} → statement M
-begin-spec = tie.close (tie.spec mul-place-from place-from-requires returns returns-2)
+begin-spec = tie.close (tie.spec (λ c. search needs) (λ c κs. search needs) (λ c. search needs) returns-2)

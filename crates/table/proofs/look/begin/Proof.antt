@@ -5,18 +5,6 @@ use Rattle.table.specs.Search.{begun}
 use Rattle.table.proofs.look.begin.Statement.{statement}
 use Rattle.table.proofs.look.begin.Tie as tie
 
-sub-seen : tie.Need-sub-seen
-sub-seen c = search needs
-
-mul-seen : tie.Need-mul-seen
-mul-seen c = search needs
-
-shared-slice-read-seen : tie.Need-shared-slice-read-seen
-shared-slice-read-seen c = search needs
-
-sub-result : tie.Need-sub-result
-sub-result c = search needs
-
 returns : tie.Need-returns
 unfolding begun
 returns c = simp (lt-ltb _ _ (c .if1 .taken))
@@ -26,4 +14,4 @@ unfolding begun
 returns-2 c = simp (le-ltb _ _ (c .if1 .left))
 
 pub begin-spec : {M : Type 1} → statement M
-begin-spec = tie.close (tie.spec sub-seen mul-seen shared-slice-read-seen sub-result returns returns-2)
+begin-spec = tie.close (tie.spec (λ c. search needs) (λ c. search needs) (λ c. search needs) (λ c. search needs) returns returns-2)

@@ -8,31 +8,16 @@ use Rattle.table.proofs.SearchLaws.{look-is, looked-le}
 use Rattle.table.proofs.look.look.Statement.{statement}
 use Rattle.table.proofs.look.look.Tie as tie
 
-power-requires : tie.Need-power-requires
-power-requires c κs = search needs
-
-add-last : tie.Need-add-last
-add-last c = search needs
-
 sub-last : tie.Need-sub-last
 sub-last c =
     let e : c .power .result ≡ 2 ^ c .before .before .args .s = c .power .ensures in
     omega (arith, pow-pos (c .before .before .args .s))
-
-mul-seen : tie.Need-mul-seen
-mul-seen c = search needs
 
 shared-slice-read-seen : tie.Need-shared-slice-read-seen
 shared-slice-read-seen c =
     let a = c .before .before .before .args in
     let e : c .before .power .result ≡ 2 ^ a .s = c .before .power .ensures in
     omega (arith, pow-pos (a .s), c .before .before .before .pre .1)
-
-cast-less : tie.Need-cast-less
-cast-less c = search needs
-
-shl-result : tie.Need-shl-result
-shl-result c = search needs
 
 add-result : tie.Need-add-result
 add-result c =
@@ -48,12 +33,12 @@ pub look-spec : {M : Type 1} → statement M
 look-spec =
     tie.close
     (tie.spec
-    power-requires
-    add-last
+    (λ c κs. search needs)
+    (λ c. search needs)
     sub-last
-    mul-seen
+    (λ c. search needs)
     shared-slice-read-seen
-    cast-less
-    shl-result
+    (λ c. search needs)
+    (λ c. search needs)
     add-result
     returns)

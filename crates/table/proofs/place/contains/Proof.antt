@@ -10,20 +10,11 @@ use Rattle.table.proofs.place.contains.Tie as tie
 returns : tie.Need-returns
 returns c = let s = c .before .before .args in λ a. has-none (s .k) (s .t .now) (c .if1 .taken)
 
-place-requires : tie.Need-place-requires
-place-requires c κs = search needs
-
-cast-i : tie.Need-cast-i
-cast-i c = search needs
-
 sub-i : tie.Need-sub-i
 sub-i c =
     let s = c .before .before .before .args in
     let n = length (s .t .now) in
     ⊎-elim (λ w. omega arith) (λ w. omega arith) (byte-behind (c .place .result) n (c .place .ensures .0))
-
-mul-result : tie.Need-mul-result
-mul-result c = search needs
 
 shared-slice-read-result : tie.Need-shared-slice-read-result
 shared-slice-read-result c =
@@ -41,4 +32,4 @@ returns-2 c =
 pub contains-spec : {M : Type 1} → statement M
 contains-spec =
     tie.close
-    (tie.spec returns place-requires cast-i sub-i mul-result shared-slice-read-result returns-2)
+    (tie.spec returns (λ c κs. search needs) (λ c. search needs) sub-i (λ c. search needs) shared-slice-read-result returns-2)

@@ -10,15 +10,6 @@ use Rattle.segment.proofs.SquaredLaws.{distance-root}
 use Rattle.segment.proofs.line.LineSegment.distance_from_point.Statement.{statement}
 use Rattle.segment.proofs.line.LineSegment.distance_from_point.Tie as tie
 
-measured-requires : tie.Need-measured-requires
-measured-requires c κs = search needs
-
-square-to-requires : tie.Need-square-to-requires
-square-to-requires c κs = search needs
-
-root-requires : tie.Need-root-requires
-root-requires c κs = search needs
-
 returns : tie.Need-returns
 returns c =
     let s = c .before .before .before .args .self in
@@ -26,4 +17,4 @@ returns c =
     c .root .ensures ∙ ap (λ (q : Float). rootF q) (c .before .square-to .ensures ∙ ap (λ (m : Measured). squared m p) (c .before .before .measured .ensures)) ∙ sym (distance-root s p)
 
 pub distance-from-point-spec : {M : Type 1} → statement M
-distance-from-point-spec = tie.close (tie.spec measured-requires square-to-requires root-requires returns)
+distance-from-point-spec = tie.close (tie.spec (λ c κs. search needs) (λ c κs. search needs) (λ c κs. search needs) returns)

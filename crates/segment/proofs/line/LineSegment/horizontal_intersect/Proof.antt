@@ -5,12 +5,6 @@ use mathlib.Core.Path.{refl, _∙_}
 use Rattle.segment.proofs.line.LineSegment.horizontal_intersect.Statement.{statement}
 use Rattle.segment.proofs.line.LineSegment.horizontal_intersect.Tie as tie
 
-exchanged-requires : tie.Need-exchanged-requires
-exchanged-requires c κs = search needs
-
-vertical-intersect-requires : tie.Need-vertical-intersect-requires
-vertical-intersect-requires c κs = search needs
-
 returns : tie.Need-returns
 unfolding horizontalAt
 returns c =
@@ -18,4 +12,4 @@ returns c =
     c .vertical-intersect .ensures ∙ rw (e .0, e .1) refl
 
 pub horizontal-intersect-spec : {M : Type 1} → statement M
-horizontal-intersect-spec = tie.close (tie.spec exchanged-requires vertical-intersect-requires returns)
+horizontal-intersect-spec = tie.close (tie.spec (λ c κs. search needs) (λ c κs. search needs) returns)

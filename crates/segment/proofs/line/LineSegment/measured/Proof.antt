@@ -6,15 +6,6 @@ use Rattle.segment.proofs.SquaredLaws.{measured-is}
 use Rattle.segment.proofs.line.LineSegment.measured.Statement.{statement}
 use Rattle.segment.proofs.line.LineSegment.measured.Tie as tie
 
-minus-requires : tie.Need-minus-requires
-minus-requires c κs = search needs
-
-norm-requires : tie.Need-norm-requires
-norm-requires c κs = search needs
-
-over-requires : tie.Need-over-requires
-over-requires c κs = search needs
-
 returns : tie.Need-returns
 returns c =
     let s = c .before .before .before .before .before .args .self in
@@ -23,4 +14,4 @@ returns c =
     measured-is s (n .result) (c .over .result) (n .ensures ∙ ap norm v) (c .over .ensures ∙ ap (λ (a : Pt). over a (n .result)) v)
 
 pub measured-spec : {M : Type 1} → statement M
-measured-spec = tie.close (tie.spec minus-requires norm-requires over-requires returns)
+measured-spec = tie.close (tie.spec (λ c κs. search needs) (λ c κs. search needs) (λ c κs. search needs) returns)

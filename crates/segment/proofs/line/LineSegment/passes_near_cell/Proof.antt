@@ -7,15 +7,6 @@ use Rattle.segment.proofs.NearLaws.{near-is}
 use Rattle.segment.proofs.line.LineSegment.passes_near_cell.Statement.{statement}
 use Rattle.segment.proofs.line.LineSegment.passes_near_cell.Tie as tie
 
-measured-requires : tie.Need-measured-requires
-measured-requires c κs = search needs
-
-new-requires : tie.Need-new-requires
-new-requires c κs = search needs
-
-passes-near-requires : tie.Need-passes-near-requires
-passes-near-requires c κs = search needs
-
 returns : tie.Need-returns
 returns c =
     let a = c .before .before .before .args in
@@ -23,4 +14,4 @@ returns c =
     c .passes-near .ensures ∙ ap (λ (m : Measured). nearBy m g (a .cell)) (c .before .before .measured .ensures) ∙ sym (near-is (a .self) g (a .cell) (a .size) (a .radius) (c .before .new .ensures))
 
 pub passes-near-cell-spec : {M : Type 1} → statement M
-passes-near-cell-spec = tie.close (tie.spec measured-requires new-requires passes-near-requires returns)
+passes-near-cell-spec = tie.close (tie.spec (λ c κs. search needs) (λ c κs. search needs) (λ c κs. search needs) returns)

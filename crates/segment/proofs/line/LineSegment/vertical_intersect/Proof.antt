@@ -31,9 +31,6 @@ returns-2 c =
     let a = j .before .before .before .before .args in
     ap places (sym (none-right (seg (a .self)) (a .x) (left j) (c .before .before .if3 .taken) (c .if4 .taken)))
 
-abs-requires : tie.Need-abs-requires
-abs-requires c κs = search needs
-
 returns-3 : tie.Need-returns-3
 unfolding tiny
 returns-3 c =
@@ -50,4 +47,4 @@ returns-4 c =
     ap places (sym (slanted (seg (a .self)) (a .x) (left (j .before .before)) (right j) (ap (λ (d : Float). lt d tiny) (sym (e .before .abs .ensures)) ∙ e .if5 .left)))
 
 pub vertical-intersect-spec : {M : Type 1} → statement M
-vertical-intersect-spec = tie.close (tie.spec returns returns-2 abs-requires returns-3 returns-4)
+vertical-intersect-spec = tie.close (tie.spec returns returns-2 (λ c κs. search needs) returns-3 returns-4)

@@ -6,21 +6,6 @@ use Rattle.segment.proofs.SpanLaws.{nothing-near, all-inside}
 use Rattle.segment.proofs.many.NearTest.new.Statement.{statement}
 use Rattle.segment.proofs.many.NearTest.new.Tie as tie
 
-measured-requires : tie.Need-measured-requires
-measured-requires c κs = search needs
-
-small-line-requires : tie.Need-small-line-requires
-small-line-requires c κs = search needs
-
-wide-requires : tie.Need-wide-requires
-wide-requires c κs = search needs
-
-span-of-requires : tie.Need-span-of-requires
-span-of-requires c κs = search needs
-
-span-of-requires-2 : tie.Need-span-of-requires-2
-span-of-requires-2 c κs = search needs
-
 returns : tie.Need-returns
 returns c =
     let t = c .before .before .before .before .before .before in
@@ -38,4 +23,4 @@ returns-2 : tie.Need-returns-2
 returns-2 c = record { line = c .before .before .measured .ensures; proximity = refl; outside = λ k h o. absurd (true≢false (sym (all-inside k h) ∙ o)) }
 
 pub new-spec : {M : Type 1} → statement M
-new-spec = tie.close (tie.spec measured-requires small-line-requires wide-requires span-of-requires span-of-requires-2 returns returns-2)
+new-spec = tie.close (tie.spec (λ c κs. search needs) (λ c κs. search needs) (λ c κs. search needs) (λ c κs. search needs) (λ c κs. search needs) returns returns-2)

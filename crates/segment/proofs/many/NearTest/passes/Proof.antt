@@ -14,14 +14,8 @@ use Rattle.segment.proofs.many.NearTest.passes.Tie as tie
 cast-x : tie.Need-cast-x
 cast-x c = omega arith
 
-outside-requires : tie.Need-outside-requires
-outside-requires c κs = search needs
-
 cast-y : tie.Need-cast-y
 cast-y c = omega arith
-
-outside-requires-2 : tie.Need-outside-requires-2
-outside-requires-2 c κs = search needs
 
 -- no top bit, exactly where the cell is in both spans
 spans : (c : tie.After-outside2) → let a = c .before .before .args in ltb (bitOr (c .before .outside .result) (c .outside2 .result)) 9223372036854775808 ≡ inSpans (a .self) (a .cell)
@@ -33,9 +27,6 @@ returns c =
     let out : inSpans (a .self) (a .cell) ≡ false = sym (spans (c .before)) ∙ le-ltb _ 9223372036854775808 (c .if1 .taken) in
     rw out refl
 
-passes-near-requires : tie.Need-passes-near-requires
-passes-near-requires c κs = search needs
-
 returns-2 : tie.Need-returns-2
 returns-2 c =
     let e = c .before .before in
@@ -44,4 +35,4 @@ returns-2 c =
     c .passes-near .ensures ∙ rw inside refl
 
 pub passes-spec : {M : Type 1} → statement M
-passes-spec = tie.close (tie.spec cast-x cast-y outside-requires outside-requires-2 returns passes-near-requires returns-2)
+passes-spec = tie.close (tie.spec cast-x cast-y (λ c κs. search needs) (λ c κs. search needs) returns (λ c κs. search needs) returns-2)

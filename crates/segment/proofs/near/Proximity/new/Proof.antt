@@ -5,15 +5,9 @@ use mathlib.Core.Path.{refl}
 use Rattle.segment.proofs.near.Proximity.new.Statement.{statement}
 use Rattle.segment.proofs.near.Proximity.new.Tie as tie
 
-root-threshold-requires : tie.Need-root-threshold-requires
-root-threshold-requires c κs = search needs
-
-root-threshold-requires-2 : tie.Need-root-threshold-requires-2
-root-threshold-requires-2 c κs = search needs
-
 returns : tie.Need-returns
 unfolding bound
 returns c = record { size = refl; limit = refl; close = c .before .root-threshold .ensures; far = c .root-threshold2 .ensures }
 
 pub new-spec : {M : Type 1} → statement M
-new-spec = tie.close (tie.spec root-threshold-requires root-threshold-requires-2 returns)
+new-spec = tie.close (tie.spec (λ c κs. search needs) (λ c κs. search needs) returns)

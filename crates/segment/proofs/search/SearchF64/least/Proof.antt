@@ -4,9 +4,6 @@ use borrow.Author.Needs.{needs}
 use Rattle.segment.proofs.search.SearchF64.least.Statement.{statement}
 use Rattle.segment.proofs.search.SearchF64.least.Tie as tie
 
-min-requires : tie.Need-min-requires
-min-requires c κs = search needs
-
 returns : tie.Need-returns
 returns c = rw (c .before .if1 .taken, c .min .ensures) refl
 
@@ -14,4 +11,4 @@ returns-2 : tie.Need-returns-2
 returns-2 c = rw (c .if1 .left) refl
 
 pub least-spec : {M : Type 1} → statement M
-least-spec = tie.close (tie.spec min-requires returns returns-2)
+least-spec = tie.close (tie.spec (λ c κs. search needs) returns returns-2)

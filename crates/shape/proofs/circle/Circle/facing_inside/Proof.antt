@@ -5,15 +5,9 @@ use mathlib.Core.Path.{refl}
 use Rattle.shape.proofs.circle.Circle.facing_inside.Statement.{statement}
 use Rattle.shape.proofs.circle.Circle.facing_inside.Tie as tie
 
-line-inside-requires : tie.Need-line-inside-requires
-line-inside-requires c κs = search needs
-
 returns : tie.Need-returns
 unfolding ofBits
 returns c = rw (c .before .if1 .taken) (c .line-inside .ensures)
-
-line-inside-requires-2 : tie.Need-line-inside-requires-2
-line-inside-requires-2 c κs = search needs
 
 returns-2 : tie.Need-returns-2
 unfolding ofBits
@@ -25,4 +19,4 @@ returns-3 c = rw (c .before .if1 .left, c .if2 .left) refl
 
 pub facing-inside-spec : {M : Type 1} → statement M
 facing-inside-spec =
-    tie.close (tie.spec line-inside-requires returns line-inside-requires-2 returns-2 returns-3)
+    tie.close (tie.spec (λ c κs. search needs) returns (λ c κs. search needs) returns-2 returns-3)

@@ -22,15 +22,6 @@ away c = c .before .minus .ensures ∙ ap (minus _) (c .before .before .centre .
 outer : (c : tie.Else1) → let d = c .before .before in lt (dot (gap d) (gap d)) (start d .args .self .close) ≡ false
 outer c = rw (c .before .before .dot .ensures) at (c .if1 .left)
 
-centre-requires : tie.Need-centre-requires
-centre-requires c κs = search needs
-
-minus-requires : tie.Need-minus-requires
-minus-requires c κs = search needs
-
-dot-requires : tie.Need-dot-requires
-dot-requires c κs = search needs
-
 returns : tie.Need-returns
 returns c =
     let d = c .before .before in
@@ -43,15 +34,6 @@ returns-2 c =
     let d = e .before .before in
     let a = start d .args in
     meets-far (a .self) (a .cell) (gap d) (away d) (outer e) (rw (d .dot .ensures) at (c .if2 .taken))
-
-corner-requires : tie.Need-corner-requires
-corner-requires c κs = search needs
-
-corner-requires-2 : tie.Need-corner-requires-2
-corner-requires-2 c κs = search needs
-
-sides-inside-requires : tie.Need-sides-inside-requires
-sides-inside-requires c κs = search needs
 
 returns-3 : tie.Need-returns-3
 returns-3 c =
@@ -67,4 +49,4 @@ returns-3 c =
 pub meets-spec : {M : Type 1} → statement M
 meets-spec =
     tie.close
-    (tie.spec centre-requires minus-requires dot-requires returns returns-2 corner-requires corner-requires-2 sides-inside-requires returns-3)
+    (tie.spec (λ c κs. search needs) (λ c κs. search needs) (λ c κs. search needs) returns returns-2 (λ c κs. search needs) (λ c κs. search needs) (λ c κs. search needs) returns-3)

@@ -5,15 +5,9 @@ use mathlib.Core.Path.{refl, sym, _∙_}
 use Rattle.shape.proofs.circle.Circle.sides_inside.Statement.{statement}
 use Rattle.shape.proofs.circle.Circle.sides_inside.Tie as tie
 
-facing-inside-requires : tie.Need-facing-inside-requires
-facing-inside-requires c κs = search needs
-
 returns : tie.Need-returns
 unfolding sidesWithin
 returns c = rw (sym (c .before .facing-inside .ensures) ∙ c .if1 .taken) refl
-
-facing-inside-requires-2 : tie.Need-facing-inside-requires-2
-facing-inside-requires-2 c κs = search needs
 
 returns-2 : tie.Need-returns-2
 unfolding sidesWithin
@@ -21,4 +15,4 @@ returns-2 c = rw (sym (c .before .before .facing-inside .ensures) ∙ c .before 
 
 pub sides-inside-spec : {M : Type 1} → statement M
 sides-inside-spec =
-    tie.close (tie.spec facing-inside-requires returns facing-inside-requires-2 returns-2)
+    tie.close (tie.spec (λ c κs. search needs) returns (λ c κs. search needs) returns-2)
