@@ -1,7 +1,7 @@
 // The first line of a listing: `cells .. corners .. points .. edges .. open .. blocks ..`.
 use crate::bytes::put_byte;
 use crate::bytes::put_labelled;
-use crate::room::FIRST;
+use sizes::FIRST_LINE;
 ghost use lib.Dec.{leb};
 ghost use lib.ListN.{length};
 ghost use Rattle.model.specs.Listing.{countsLine};
@@ -23,7 +23,7 @@ pub fn put_counts(out: &mut [u8], counts: Counts) -> usize
         (countsLine (counts .cells) (counts .corners) (counts .points) (counts .edges) (counts .open) (counts .blocks))
         0 r (now (out .entry)) (now (out .exit)) ⌝ }
 {
-    if out.len() < FIRST {
+    if out.len() < FIRST_LINE {
         return 0;
     }
     let a = put_labelled(out, 0, b"cells ", counts.cells);

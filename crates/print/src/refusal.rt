@@ -1,7 +1,7 @@
 // The line of a refused map file: `refused N at F`.
 use crate::bytes::put_byte;
 use crate::bytes::put_labelled;
-use crate::room::LINE;
+use sizes::LINE;
 ghost use lib.Dec.{leb};
 ghost use lib.ListN.{length};
 ghost use Rattle.model.specs.Listing.{refusedLine};

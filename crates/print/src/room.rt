@@ -1,12 +1,8 @@
 // Whether there is room for lines.
+use sizes::LINE;
 ghost use mathlib.Core.Path.{_≡_};
 ghost use mathlib.Core.Bool.{not};
 ghost use Rattle.print.specs.Printed.{linesFit};
-
-// Bytes for which there has to be room: of a listing's first line, and of any other.
-pub(crate) const FIRST: usize = 256;
-
-pub(crate) const LINE: usize = 80;
 
 // Whether n lines from the place `at` on may not fit into `length` bytes, or the second or third column has fewer than n entries.
 pub(crate) fn lacks_room(length: usize, at: usize, n: usize, second: usize, third: usize) -> bool

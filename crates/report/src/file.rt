@@ -36,7 +36,8 @@ fn read_file(
 ) -> Ended
     requires { ⌜ short (needs (tablesOf (now cells) (now points) (now statuses) (now blockers) (now pairs))) ≡ false ⌝ }
     ensures { λ r. ⌜ EndedAs (r .refusal) r
-        (tablesOf (now (cells .exit)) (now (points .exit)) (now (statuses .exit)) (now (blockers .exit)) (now (pairs .exit))) (readFile (now (bytes .entry))) ⌝ }
+        (tablesOf (now (cells .exit)) (now (points .exit)) (now (statuses .exit)) (now (blockers .exit)) (now (pairs .exit)))
+        (readFile (now (bytes .entry))) ⌝ }
 {
     let mut reader = begin();
     let mut at = 0;

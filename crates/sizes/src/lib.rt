@@ -49,5 +49,9 @@ pub const FOUR_COLUMNS: u64 = 4 * COLUMN;
 // Bytes of a field of a map file that has most: a tag, a length of two bytes and BATCH entries of nine bytes.
 pub const WINDOW: usize = 3 + 9 * BATCH;
 
-// Bytes that a listing may need.
-pub const LISTING: usize = 256 + 80 * (POINTS + LISTED);
+// Bytes that a listing's first line may need, any other line, and the whole listing.
+pub const FIRST_LINE: usize = 256;
+
+pub const LINE: usize = 80;
+
+pub const LISTING: usize = FIRST_LINE + LINE * (POINTS + LISTED);
