@@ -27,6 +27,7 @@ pub record Lent : Type 0 where
   pub corners : List ℕ
   pub altered : List ℕ
 
+-- nine lists as what a batch is lent
 abbrev pub lentOf : List ℕ → List ℕ → List ℕ → List ℕ → List ℕ → List ℕ → List ℕ → List ℕ → List ℕ → Lent
 lentOf cells points statuses blockers pairs confirmed full corners altered =
     record { tables = tablesOf cells points statuses blockers pairs; confirmed = confirmed; full = full; corners = corners; altered = altered }
