@@ -9,7 +9,7 @@ use table::copy::copy;
 
 // 0 and the answer; or the refusal's number, and no.
 #[repr(C)]
-#[derive(Drop)]
+#[derive(Clone, Copy)]
 pub struct Told {
     pub refusal: u8,
     pub yes: bool,

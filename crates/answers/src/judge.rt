@@ -15,7 +15,7 @@ use sizes::{CELLS, LEAST_ASKED, MOST_ASKED, PAIRS, POINTS};
 
 // 0 and how many there are; or the refusal's number, and 0.
 #[repr(C)]
-#[derive(Drop)]
+#[derive(Clone, Copy)]
 pub struct Count {
     pub refusal: u8,
     pub count: usize,

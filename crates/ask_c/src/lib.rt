@@ -11,7 +11,7 @@ use question::numbered::question_of;
 
 // The refusal's number, whether a cell was found, and the cell; all else is zero where there is none.
 #[repr(C)]
-#[derive(Drop)]
+#[derive(Clone, Copy)]
 pub struct Found {
     pub refusal: u8,
     pub some: bool,

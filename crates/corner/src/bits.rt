@@ -4,7 +4,7 @@ ghost use Rattle.model.specs.Corner.{Bits, any_bit, bit, number, set_bit};
 ghost use Rattle.corner.specs.Weights.{dir, weight};
 
 // A corner of a cell.
-#[derive(Drop)]
+#[derive(Clone, Copy)]
 pub enum Corner {
     Southwest,
     Southeast,
@@ -13,7 +13,7 @@ pub enum Corner {
 }
 
 // Which corners a cell has.
-#[derive(Drop)]
+#[derive(Clone, Copy)]
 pub struct CornerStatus {
     pub bits: u8,
 }

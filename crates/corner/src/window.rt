@@ -10,7 +10,7 @@ use table::place::stands_at;
 use table::places::places_of;
 
 // Which cells have which corner.
-#[derive(Drop)]
+#[derive(Clone, Copy)]
 pub(crate) struct Corners {
     pub sw: u64,
     pub se: u64,

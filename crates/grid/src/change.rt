@@ -13,7 +13,7 @@ use sizes::{BATCH, CELLS, CORNERS};
 
 // 0 with how many changes were confirmed, how many corners changed, and the floor afterwards; or the refusal's
 // number, and all else zero.
-#[derive(Drop)]
+#[derive(Clone, Copy)]
 pub struct Changed {
     pub refusal: u8,
     pub confirmed: usize,

@@ -1,6 +1,6 @@
 // A map, whose cells, points and pairs are in lent tables.
 #[repr(C)]
-#[derive(Drop)]
+#[derive(Clone, Copy)]
 pub struct Map {
     pub size: f64,
     pub radius: f64,
@@ -10,7 +10,7 @@ pub struct Map {
 
 // 0 and a map; or the refusal's number, and a map that is all zero.
 #[repr(C)]
-#[derive(Drop)]
+#[derive(Clone, Copy)]
 pub struct Outcome {
     pub refusal: u8,
     pub map: Map,

@@ -6,7 +6,7 @@ ghost use Rattle.model.specs.Maps.{AscL, has};
 use sizes::COLUMN;
 
 #[repr(C)]
-#[derive(Drop)]
+#[derive(Clone, Copy)]
 pub struct Cell {
     pub x: i64,
     pub y: i64,

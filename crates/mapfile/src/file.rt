@@ -15,7 +15,7 @@ use table::copy::copy;
 
 // 0, 0 and the map; or the refusal's number, the field's, and a map that is all zero.
 #[repr(C)]
-#[derive(Drop)]
+#[derive(Clone, Copy)]
 pub struct Opened {
     pub refusal: u8,
     pub field: u64,

@@ -12,7 +12,7 @@ pub(crate) const ENTRY: usize = 9;
 const VALUE: usize = ENTRY * BATCH;
 
 // What may come next: field 01, field 02, a field 03 or FF, nothing.
-#[derive(Drop)]
+#[derive(Clone, Copy)]
 pub enum Expected {
     Size,
     Radius,
@@ -21,7 +21,7 @@ pub enum Expected {
 }
 
 // 0, the field's tag, and how many bytes its value has; or the refusal's number, and all else zero.
-#[derive(Drop)]
+#[derive(Clone, Copy)]
 pub(crate) struct Head {
     pub due: u8,
     pub tag: u8,

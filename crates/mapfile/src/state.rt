@@ -6,7 +6,7 @@ use crate::head::Expected;
 use held::map::Map;
 
 // What is expected, the number of the field that is expected, and what was read: the cell size, and the map once it is open.
-#[derive(Drop)]
+#[derive(Clone, Copy)]
 pub struct Reader {
     pub expected: Expected,
     pub field: u64,
@@ -15,7 +15,7 @@ pub struct Reader {
 }
 
 // The field was taken, with so many bytes, and the reading goes on; a refusal's number and the field's; or the file has ended, and this is its map.
-#[derive(Drop)]
+#[derive(Clone, Copy)]
 pub enum Reading {
     More(Reader, usize),
     Refused(u8, u64),

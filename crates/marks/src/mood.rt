@@ -10,7 +10,7 @@ pub(crate) const MARKS: u64 = 1048576;
 
 // Its status; one more than its place among the old points, or 0; one more than the number of the first mark that
 // queued it, or 0.
-#[derive(Drop)]
+#[derive(Clone, Copy)]
 pub struct Mood {
     pub status: u8,
     pub old: u64,

@@ -4,13 +4,13 @@ ghost use Rattle.model.specs.Plane.{plus, minus, times, over, dot, norm, turned}
 ghost use Rattle.plane.specs.Values.{pt, vec};
 
 #[repr(C)]
-#[derive(Drop)]
+#[derive(Clone, Copy)]
 pub struct Point {
     pub x: f64,
     pub y: f64,
 }
 
-#[derive(Drop)]
+#[derive(Clone, Copy)]
 pub struct Vector {
     pub x: f64,
     pub y: f64,

@@ -7,7 +7,7 @@ ghost use Rattle.model.specs.Limits.{first_room};
 use crate::bytes::{put_byte, put_labelled};
 use sizes::FIRST_LINE;
 
-#[derive(Drop)]
+#[derive(Clone, Copy)]
 pub struct Counts {
     pub cells: u64,
     pub corners: u64,

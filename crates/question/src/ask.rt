@@ -13,14 +13,14 @@ use limits::judge::bad_size;
 use sizes::CELLS;
 
 // `Option<Cell>`.
-#[derive(Drop)]
+#[derive(Clone, Copy)]
 pub enum Place {
     Nothing,
     At(Cell),
 }
 
 // 0 and what was found, or the refusal's number and nothing.
-#[derive(Drop)]
+#[derive(Clone, Copy)]
 pub struct Answer {
     pub refusal: u8,
     pub cell: Place,

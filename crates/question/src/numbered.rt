@@ -6,7 +6,7 @@ use crate::search::Question;
 use plane::point::Point;
 
 // A number names a shape, and so a question, or none.
-#[derive(Drop)]
+#[derive(Clone, Copy)]
 pub enum Numbered {
     Unknown,
     Known(Question),

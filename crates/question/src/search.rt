@@ -17,7 +17,7 @@ use table::place::contains;
 
 // One question carries its shape and that shape's own lengths: a point; a centre and a width; a centre and a
 // radius; two points and a width.
-#[derive(Drop)]
+#[derive(Clone, Copy)]
 pub enum Question {
     Point(Point),
     Square(Point, f64),
@@ -27,7 +27,7 @@ pub enum Question {
 
 // What a test finds: a cell's key, or none, and then the key is 0. Numbers and no enum: whether something is found is
 // often not to be predicted, and a struct of numbers needs no branch.
-#[derive(Drop)]
+#[derive(Clone, Copy)]
 pub struct Found {
     pub some: bool,
     pub key: u64,

@@ -8,7 +8,7 @@ ghost use Rattle.segment.specs.Values.{seg};
 use plane::point::Point;
 
 #[repr(C)]
-#[derive(Drop)]
+#[derive(Clone, Copy)]
 pub struct LineSegment {
     pub p0: Point,
     pub p1: Point,
@@ -16,7 +16,7 @@ pub struct LineSegment {
 
 // The Rust's `ArrayVec<f64, 2>`: how many, and two places, 0.0 where there is none.
 #[repr(C)]
-#[derive(Drop)]
+#[derive(Clone, Copy)]
 pub struct Crossings {
     pub count: u8,
     pub first: f64,

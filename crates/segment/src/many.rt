@@ -10,7 +10,7 @@ use crate::spans;
 use crate::spans::Span;
 use sizes::COLUMN;
 
-#[derive(Drop)]
+#[derive(Clone, Copy)]
 pub struct NearTest {
     pub(crate) line: Measured,
     pub(crate) proximity: Proximity,

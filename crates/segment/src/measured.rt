@@ -9,7 +9,7 @@ ghost use Rattle.segment.specs.Squared.{measured_of, squared};
 use crate::line::LineSegment;
 use plane::point::{Point, Vector};
 
-#[derive(Drop)]
+#[derive(Clone, Copy)]
 pub(crate) struct Measured {
     pub segment: LineSegment,
     pub length: f64,

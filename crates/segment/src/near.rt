@@ -13,7 +13,7 @@ use plane::cell::corner;
 // A cell size and a radius as the near test needs them: a corner whose square is below `close` is
 // nearer than the radius, and one whose square is `far` or above is at the limit or beyond it, too far
 // for any part of the cell.
-#[derive(Drop)]
+#[derive(Clone, Copy)]
 pub struct Proximity {
     pub size: f64,
     pub limit: f64,

@@ -5,7 +5,7 @@ ghost use Rattle.model.specs.Segment.{check_min, check_max};
 ghost use Rattle.segment.specs.Search.{held, kept};
 
 // The Rust's `Option<f64>`: whether there is a value, and the value, 0.0 where there is none.
-#[derive(Drop)]
+#[derive(Clone, Copy)]
 pub struct SearchF64 {
     pub found: bool,
     pub value: f64,

@@ -12,7 +12,7 @@ use plane::cell::begins;
 use std::num::wrapping_sub_u64;
 
 // The columns, or rows, that are to be looked at, both ends included.
-#[derive(Drop)]
+#[derive(Clone, Copy)]
 pub(crate) struct Span {
     pub(crate) low: u32,
     pub(crate) high: u32,

@@ -8,7 +8,7 @@ use plane::point::{Point, Vector};
 
 // What is the same for all cells. `square` is the radius's square. A cell whose centre's distance has a
 // square below `close` is met, and one where it is `far` or above is not.
-#[derive(Drop)]
+#[derive(Clone, Copy)]
 pub struct Circle {
     pub size: f64,
     pub p: Point,

@@ -7,7 +7,7 @@ use crate::look::{begin, exponent, look, power};
 use sizes::{COLUMN, FOUR_COLUMNS, THREE_COLUMNS, TWO_COLUMNS};
 
 // One place in each of five columns.
-#[derive(Drop)]
+#[derive(Clone, Copy)]
 pub struct Places {
     pub a: usize,
     pub b: usize,

@@ -27,7 +27,7 @@ const FEW_CORNERS: usize = 9 * 16;
 // 0, whether something was confirmed, how many changes were confirmed, how many corners altered, and the map afterwards; or the
 // refusal's number, and all else zero.
 #[repr(C)]
-#[derive(Drop)]
+#[derive(Clone, Copy)]
 pub struct Changed {
     pub refusal: u8,
     pub yes: bool,

@@ -13,7 +13,7 @@ use marks::points::mark_points;
 use sizes::{BATCH, POINTS};
 
 // How many changes were confirmed, and how many corners changed.
-#[derive(Drop)]
+#[derive(Clone, Copy)]
 struct Counts {
     confirmed: usize,
     corners: usize,
@@ -44,7 +44,7 @@ fn list_changes(
 }
 
 // The outcome of a batch: how many changes were confirmed, how many corners changed, how many points there are then, and the reach.
-#[derive(Drop)]
+#[derive(Clone, Copy)]
 pub(crate) struct Plan {
     pub(crate) confirmed: usize,
     pub(crate) corners: usize,
