@@ -28,6 +28,8 @@ level_scale s a t b k h =
 -- y is ±b, a whole number: x = y by x's fraction
 pub eq_whole : (s : Bool) (m : ℕ) (e : ℤ) (y : Float) (t : Bool) (b : ℕ) → HasValue y t b 1 → eq (fin s m e) y ≡ level s (m * up e) t (b * down e)
 unfolding eq
+eq_whole s m e nan t b v = elim v [ ]
+eq_whole s m e (inf _) t b v = elim v [ ]
 eq_whole s m e (fin u n d) t b v =
     ap (λ (x : ℕ). level s (m * up e * down d) u (x * down e)) (sym (mul-one (n * up d)) ∙ v.1)
     ∙ ap (λ (x : ℕ). level s (m * up e * down d) u x) (mul_right_comm b (down d) (down e))
@@ -87,6 +89,10 @@ neg_at_most (suc q) n = refl
 
 inf_at_most : (s : Bool) (y : Float) (n : ℕ) → n ≤ 2 ^ 53 → HasValue y false n 1 → le_z (sat_inf s) (pos n) ≡ le (inf s) y
 unfolding le lt eq
+inf_at_most false nan n k v = elim v [ ]
+inf_at_most false (inf _) n k v = elim v [ ]
+inf_at_most true nan n k v = elim v [ ]
+inf_at_most true (inf _) n k v = elim v [ ]
 inf_at_most false (fin t m e) n k v = lt-leb (2 ^ 63 - 1) n (omega arith)
 inf_at_most true (fin t m e) n k v = refl
 

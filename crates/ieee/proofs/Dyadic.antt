@@ -94,6 +94,8 @@ is_lift x a b j k h = record {
 -- ---- negation
 neg_value : (x : Float) (s : Bool) (a c : ℕ) → HasValue x s a c → HasValue (neg x) (not s) a c
 unfolding neg
+neg_value nan s a c v = elim v [ ]
+neg_value (inf _) s a c v = elim v [ ]
 neg_value (fin t m e) s a c v = (ap not v.0, v.1)
 
 off_neg : (s : Bool) (x a b : ℕ) → Off s x a b → Off (not s) x b a

@@ -35,11 +35,15 @@ size_of m e n h = ap (λ (x : ℕ). x / down e) (sym (mul-one (m * up e)) ∙ h)
 
 cast_pos : (x : Float) (n : ℕ) → HasValue x false n 1 → sat (pos n) ≡ to_signed 63 x
 unfolding to_signed
+cast_pos nan n v = elim v [ ]
+cast_pos (inf _) n v = elim v [ ]
 cast_pos (fin true m e) n v = absurd (true≢false v.0)
 cast_pos (fin false m e) n v = ap (λ (k : ℕ). pos (min k (2 ^ 63 - 1))) (sym (size_of m e n v.1))
 
 cast_neg : (x : Float) (n : ℕ) → HasValue x true n 1 → sat (neg_ℤ (pos n)) ≡ to_signed 63 x
 unfolding to_signed
+cast_neg nan n v = elim v [ ]
+cast_neg (inf _) n v = elim v [ ]
 cast_neg (fin false m e) n v = absurd (false≢true v.0)
 cast_neg (fin true m e) n v = neg_sat n ∙ ap (λ (k : ℕ). neg_ℤ (pos (min k (2 ^ 63)))) (sym (size_of m e n v.1))
 

@@ -163,6 +163,8 @@ round_back s m (negsuc k) t =
     rw (mul-one m) (round_dyadic s m (2 ^ suc k) m (suc k) (pow_pos (suc k)) w.0 (⊎_elim (λ g. absurd (not-le_of_lt (pow-lt g) w.2)) (λ l. l) (lt_or_ge 1074 (suc k))) refl)
 
 value_le : (s : Bool) (m : ℕ) (e : ℤ) (x : Float) → HasValue x s (m * up e) (down e) → le (fin s m e) x ≡ true
+value_le s m e nan v = elim v [ ]
+value_le s m e (inf _) v = elim v [ ]
 value_le s m e (fin t n d) v = inside_le s m e t n d (rw v.0 (level s))
   where
     level : (s : Bool) → AtMost s (m * up e) (down e) s (n * up d) (down d)

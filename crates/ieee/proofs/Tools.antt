@@ -101,6 +101,8 @@ below_scale true a true b k h = ltb_scale b a k h
 -- y is ±b, a whole number: x < y by x's fraction
 pub lt_whole : (s : Bool) (m : ℕ) (e : ℤ) (y : Float) (t : Bool) (b : ℕ) → HasValue y t b 1 → lt (fin s m e) y ≡ below s (m * up e) t (b * down e)
 unfolding lt
+lt_whole s m e nan t b v = elim v [ ]
+lt_whole s m e (inf _) t b v = elim v [ ]
 lt_whole s m e (fin u n d) t b v =
     ap (λ (x : ℕ). below s (m * up e * down d) u (x * down e)) (sym (mul-one (n * up d)) ∙ v.1)
     ∙ ap (λ (x : ℕ). below s (m * up e * down d) u x) (mul_right_comm b (down d) (down e))
@@ -109,6 +111,8 @@ lt_whole s m e (fin u n d) t b v =
 
 pub whole_lt : (s : Bool) (m : ℕ) (e : ℤ) (y : Float) (t : Bool) (b : ℕ) → HasValue y t b 1 → lt y (fin s m e) ≡ below t (b * down e) s (m * up e)
 unfolding lt
+whole_lt s m e nan t b v = elim v [ ]
+whole_lt s m e (inf _) t b v = elim v [ ]
 whole_lt s m e (fin u n d) t b v =
     ap (λ (x : ℕ). below u (x * down e) s (m * up e * down d)) (sym (mul-one (n * up d)) ∙ v.1)
     ∙ ap (λ (x : ℕ). below u x s (m * up e * down d)) (mul_right_comm b (down d) (down e))

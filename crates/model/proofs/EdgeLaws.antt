@@ -70,7 +70,7 @@ edge_put a b p r e =
 edge_del : (a b p : ℕ) (e : Edges) → edge a b (del p e) ≡ cond (eqb a p) none (edge a b e)
 unfolding edge line get
 edge_del a b p e =
-    by_eqb a p (edge a b (del p e)) none (edge a b e) (λ h. rw (h, get_del_same p e, line) refl) (λ h. rw (get_del_other a p e h, line) refl)
+    by_eqb a p (edge a b (del p e)) none (edge a b e) (λ h. rw (← h, get_del_same a e, line) refl) (λ h. rw (get_del_other a p e h, line) refl)
 
 -- the row r, which is p's but for x at q, put at p
 row_at : (a b p q : ℕ) (x : Option (Option ℕ)) (r : List (ℕ × Option ℕ)) (e : Edges) → get b r ≡ cond (eqb b q) x (edge p b e)

@@ -1,0 +1,13 @@
+use Prim.Native.Nat.{◌-◌}
+use mathlib.Core.Logic.{⊎_elim}
+use lib.ListN.{length}
+use borrow.Author.Rules.{rules}
+use Rattle.answers.proofs.PairLaws.{OpenTo, counting_room, open_end, open_more, open_skip, open_start}
+use Rattle.answers.proofs.pairs.list_open.Given as goal
+
+-- `pairs::list_open`: row by row, but for the rows of blocked points. Assumes nothing.
+abbrev pub invariant-loop-i : goal.invariant-loop-i
+invariant-loop-i l = OpenTo l.points l.blockers l.pairs l.n l.i l.initial.lesser l.lesser l.initial.greater l.greater
+
+abbrev pub decreases-loop-i : goal.decreases-loop-i
+decreases-loop-i l = length l.points - l.i

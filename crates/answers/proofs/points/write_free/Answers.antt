@@ -1,0 +1,22 @@
+use Prim.Native.Nat.{◌-◌}
+use mathlib.Core.Logic.{⊎_elim}
+use lib.ListN.{length}
+use borrow.Author.Rules.{rules}
+use Rattle.answers.proofs.PointLaws.{FreeTo, free_all, free_none, free_pass, free_put}
+use Rattle.answers.proofs.points.write_free.Goals as goal
+use Rattle.answers.proofs.points.write_free.Goals.{else-blockers-i-eq0, then-blockers-i-eq0}
+
+pub loop-i-init : goal.loop-i-init
+loop-i-init c = let a = c.args in free_none a.points.now a.blockers.now a.out.now c.requires.1
+
+pub loop-i-preserved : goal.loop-i-preserved
+loop-i-preserved c =
+    let l = c.loop-i in
+    let a = c.args in
+    elim c.if-blockers-i-eq0.branch [ then-blockers-i-eq0 w ↦ rw (w.2, w.3) (free_put a.points.now a.blockers.now a.out.now l.out l.n l.i l.invariant c.loop-i-test.true w.0.taken) | else-blockers-i-eq0 w ↦ rw (w.1, w.2) (free_pass a.points.now a.blockers.now a.out.now l.out l.n l.i l.invariant c.loop-i-test.true w.0.left) ]
+
+pub returns : goal.returns
+returns c =
+    let l = c.loop-i in
+    let a = c.args in
+    free_all a.points.now a.blockers.now a.out.now l.out l.n l.i l.invariant c.loop-i-test.false

@@ -1,0 +1,13 @@
+use borrow.Author.Rules.{rules}
+use mathlib.Core.Path.{subst}
+use Rattle.answers.specs.Asks.{AsksNumbered}
+use Rattle.question.specs.declared.numbered.Numbered.{Numbered}
+use Rattle.ask_c.proofs.runcedau_lent_ask.Goals as goal
+
+-- `runcedau_lent_ask`: what `ask_numbered` answers, as a struct. Assumes nothing.
+pub returns : goal.returns
+returns c =
+    let a = c.args in
+    let r = c.ask_numbered.result in
+    let asked = subst (λ (n : Numbered). AsksNumbered a.map a.cells.now n r) c.question_of.ensures c.ask_numbered.ensures in
+    (r, asked, c.told.ensures)

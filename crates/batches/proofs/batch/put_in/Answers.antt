@@ -1,0 +1,25 @@
+use Prim.Native.Nat.{◌-◌}
+use mathlib.Core.Path.{refl}
+use mathlib.Core.Logic.{⊎_elim}
+use mathlib.Core.Bool.{true}
+use lib.ListN.{length, get_or}
+use borrow.Author.Rules.{rules}
+use Rattle.batches.proofs.WriteLaws.{Writing, insert_writes, means_free, means_full, writing_start, writing_same, writing_more, writing_end}
+use Rattle.batches.proofs.batch.put_in.Goals as goal
+use Rattle.batches.proofs.batch.put_in.Goals.{else-full-i-ne0, then-full-i-ne0}
+
+pub loop-i-init : goal.loop-i-init
+loop-i-init c = let a = c.args in writing_start true a.confirmed.now a.full.now a.cells.now a.n
+
+pub loop-i-preserved : goal.loop-i-preserved
+loop-i-preserved c =
+    let k = get_or c.args.confirmed.now c.loop-i.i 0 in
+    let h = c.loop-i-test.true in
+    elim c.if-full-i-ne0.branch [ then-full-i-ne0 w ↦ rw (w.6, w.7)
+    (writing_more c.loop-i.invariant w.3.last.0 w.3.result h (means_full w.0.taken) w.4.given (λ T f. insert_writes c.loop-i.cells c.loop-i.used k w.3.last.0 w.3.result w.3.ensures T (f refl))) | else-full-i-ne0 w ↦ rw (w.1, w.2) (writing_same c.loop-i.invariant h (means_free w.0.left)) ]
+
+pub shape_of-cells : goal.shape_of-cells
+shape_of-cells c = c.loop-i.invariant.same
+
+pub returns : goal.returns
+returns c = writing_end c.loop-i.invariant c.loop-i-test.false

@@ -1,0 +1,14 @@
+use Prim.Native.Nat.{◌-◌}
+use mathlib.Core.Logic.{⊎_elim}
+use mathlib.Core.Bool.{false}
+use lib.ListN.{length, get_or}
+use borrow.Author.Rules.{rules}
+use Rattle.batches.proofs.WriteLaws.{Writing, remove_writes, means_free, means_full, writing_start, writing_same, writing_more, writing_end}
+use Rattle.batches.proofs.batch.take_out.Given as goal
+
+-- `batch::take_out`: what is written, and the listed changes that are left. Assumes nothing.
+abbrev pub invariant-loop-i : goal.invariant-loop-i
+invariant-loop-i l = Writing false l.confirmed l.full l.initial.cells l.n l.i l.cells l.used
+
+abbrev pub decreases-loop-i : goal.decreases-loop-i
+decreases-loop-i l = length l.confirmed - l.i

@@ -1,0 +1,20 @@
+use Prim.Native.Nat.{◌+◌}
+use native.Mathlib.Omega.{arith}
+use mathlib.Core.Path.{refl}
+use lib.ListN.{get_or}
+use borrow.Author.Rules.{rules}
+use Rattle.model.specs.Cell.{W}
+use Rattle.blocks.proofs.MetLaws.{met_none, met_sought, right_at, right_touches}
+use Rattle.blocks.proofs.count.join_right.Goals as goal
+
+-- `count::join_right`: the cell to the right is looked for after place i. Assumes nothing.
+pub returns-then-k-ge-LAST_COLUMN : goal.returns-then-k-ge-LAST_COLUMN
+returns-then-k-ge-LAST_COLUMN c =
+    met_none c.requires.0 c.requires.1 refl refl (λ a l h b t u. omega (arith, c.if-k-ge-LAST_COLUMN.true, c.shared_slice_known-2-1.given l))
+
+pub returns : goal.returns
+returns c =
+    let C = c.args.cells.now in
+    let i = c.args.i in
+    met_sought c.requires.0 c.requires.1 (i + 1 + c.place.result) c.requires.3 (omega arith) (right_touches (get_or C i 0))
+    (λ a. right_at C a i (get_or C i 0 + W) c.place.result c.place.ensures.1) c.join_at.ensures

@@ -1,0 +1,15 @@
+use Prim.Native.Nat.{◌-◌, zero-le}
+use native.Mathlib.Omega.{arith}
+use mathlib.Core.Path.{refl}
+use mathlib.Core.Logic.{⊎_elim}
+use lib.ListN.{length}
+use borrow.Author.Rules.{rules}
+use Rattle.corner.proofs.CellsLaws.{CornersTo, corners_all, corners_none, corners_pass, corners_put}
+use Rattle.corner.proofs.cells.corner_cells.Given as goal
+
+-- `cells::corner_cells`: one cell after another, written where its status is not 0. Assumes nothing.
+abbrev pub invariant-loop-i : goal.invariant-loop-i
+invariant-loop-i l = CornersTo l.cells l.initial.out l.out l.initial.statuses l.statuses l.n l.i
+
+abbrev pub decreases-loop-i : goal.decreases-loop-i
+decreases-loop-i l = length l.cells - l.i

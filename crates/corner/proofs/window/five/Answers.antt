@@ -1,0 +1,26 @@
+use Prim.Native.Nat.{◌-◌}
+use native.Mathlib.Omega.{arith}
+use mathlib.Core.Path.{sym, ◌∙◌}
+use mathlib.Core.Logic.{⊎_elim}
+use borrow.Author.Rules.{rules}
+use Rattle.corner.proofs.RowLaws.{Row, row_none, row_hit, row_miss}
+use Rattle.corner.proofs.window.five.Goals as goal
+use Rattle.corner.proofs.window.five.Goals.{else-stands_at, then-stands_at}
+
+pub loop-j-init : goal.loop-j-init
+loop-j-init c =
+    let a = c.args in
+    row_none a.t.now a.base a.place c.requires.0
+
+pub loop-j-preserved : goal.loop-j-preserved
+loop-j-preserved c =
+    let a = c.args in
+    let l = c.loop-j in
+    let s = c.stands_at in
+    let more = c.loop-j-test.true in
+    elim c.if-stands_at.branch [ then-stands_at w ↦ rw (w.1, w.2) (row_hit a.t.now a.base l.at l.bits l.bit l.j more l.invariant (sym s.ensures ∙ w.0.taken)) | else-stands_at w ↦ rw (w.1, w.2) (row_miss a.t.now a.base l.at l.bits l.bit l.j more l.invariant (sym s.ensures ∙ w.0.left)) ]
+
+pub returns : goal.returns
+returns c =
+    let l = c.loop-j in
+    (omega (arith, l.invariant.small, l.invariant.short), λ a j h. l.invariant.seen a j (omega arith))

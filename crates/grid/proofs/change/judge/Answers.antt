@@ -1,0 +1,17 @@
+use mathlib.Core.Path.{refl, ap, ◌∙◌}
+use mathlib.Core.List.{[]}
+use borrow.Author.Rules.{rules}
+use Rattle.limits.proofs.WordLaws.{both_added, due_added, none_added}
+use Rattle.limits.specs.Words.{looked, word_on}
+use Rattle.grid.proofs.RefuseLaws.{change_judged}
+use Rattle.grid.proofs.change.judge.Goals as goal
+
+-- `change::judge`: what is due is added to the word from the last to the first. Assumes nothing.
+pub returns : goal.returns
+returns c =
+    let a = c.args in
+    let b = a.batch.now in
+    change_judged a.short a.size b _ c.first_due.ensures
+    (due_added 9 0 _ _ c.due-3.ensures refl refl
+    (due_added 1 0 _ _ c.due-2.ensures refl c.bad_size.ensures
+    (c.batch_due-read.ensures ∙ ap (λ w. word_on w (looked b)) (due_added 6 0 _ [] c.due.ensures refl refl (none_added 0)) ∙ both_added 0 (looked b) _)))

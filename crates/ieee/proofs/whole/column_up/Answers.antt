@@ -1,0 +1,26 @@
+use Rattle.std.proofs.Common.{false, ◌∙◌, inl, inr, ⊎_elim, arith, rules}
+use Rattle.ieee.proofs.Tools.{not_nan}
+use Rattle.ieee.specs.Whole.{ceil_z}
+use Rattle.ieee.proofs.Bias.{biased_lt}
+use Rattle.ieee.proofs.Columns.{rounded_some, bits_least, ceil_column, beyond_column}
+use Rattle.ieee.proofs.whole.column_up.Goals as goal
+use Rattle.ieee.proofs.whole.column_up.Goals.{else-else-x, then-else-x}
+
+-- `ieee::whole::column_up` meets its contract. The laws are in `proofs/Columns.antt`. Assumes nothing.
+pub float_to_bits-n : goal.float_to_bits-n
+float_to_bits-n c = not_nan _ (rounded_some c.args.x c.if-x.true c.if-x-2.true)
+
+pub overflow_sub-n : goal.overflow_sub-n
+overflow_sub-n c = bits_least c.args.x c.if-x.true c.if-x-2.true
+
+pub overflow_add-result : goal.overflow_add-result
+overflow_add-result c =
+    let e = ceil_column c.args.x c.if-x.true c.if-x-2.true in
+    let l = biased_lt (ceil_z c.args.x) in
+    omega arith
+
+pub returns-then-x-2 : goal.returns-then-x-2
+returns-then-x-2 c = ceil_column c.args.x c.if-x.true c.if-x-2.true
+
+pub returns : goal.returns
+returns c = c.column_beyond.ensures ∙ beyond_column false c.args.x (elim c.else-x.branch [ then-else-x w ↦ inr w.1.left | else-else-x w ↦ inl w.left ])

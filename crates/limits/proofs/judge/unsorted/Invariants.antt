@@ -1,0 +1,18 @@
+use Prim.Native.Nat.{◌+◌, ◌-◌, ◌≤◌}
+use native.Mathlib.Omega.{arith}
+use mathlib.Core.Path.{◌≡◌, refl, sym, ◌∙◌}
+use mathlib.Core.Bool.{not, ◌||◌}
+use lib.ListN.{length, drop}
+use borrow.Author.Rules.{rules}
+use Rattle.model.specs.Refusal.{unsorted}
+use Rattle.limits.specs.Batches.{entries}
+use Rattle.limits.proofs.EntryLaws.{item, unsorted_next, unsorted_end}
+use Rattle.limits.proofs.SignedLaws.{back}
+use Rattle.limits.proofs.judge.unsorted.Given as goal
+
+-- `judge::unsorted`: what is said of the whole is said of the entries from i on. Assumes nothing.
+abbrev pub invariant-loop-i : goal.invariant-loop-i
+invariant-loop-i l = (l.i ≤ length l.batch) × (unsorted (entries l.batch) ≡ unsorted (entries (drop l.i l.batch)))
+
+abbrev pub decreases-loop-i : goal.decreases-loop-i
+decreases-loop-i l = length l.batch - l.i

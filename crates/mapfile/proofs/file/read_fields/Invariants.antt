@@ -1,0 +1,15 @@
+use Rattle.std.proofs.Common.{◌+◌, ◌-◌, ◌^◌, ◌<◌, ◌≤◌, length, drop, arith, rules}
+use Rattle.table.proofs.Parts.{tail_is}
+use Rattle.mapfile.specs.Reads.{FieldRead}
+use Rattle.held.specs.Holds.{Tables, tables_of}
+use Rattle.mapfile.proofs.FileLaws.{ReadTo, more_within, read_done, read_more, read_none, read_refused}
+use Rattle.held.proofs.RoomLaws.{SameLong, same_both, same_none}
+use Rattle.mapfile.proofs.file.read_fields.Given as goal
+
+-- `file::read_fields`: the fields in turn, to a refusal or to the end. Assumes nothing.
+abbrev pub invariant-loop-next : goal.invariant-loop-next
+invariant-loop-next l =
+    ReadTo l.bytes (tables_of l.cells l.points l.statuses l.blockers l.pairs) l.reader l.at × SameLong (tables_of l.initial.cells l.initial.points l.initial.statuses l.initial.blockers l.initial.pairs) (tables_of l.cells l.points l.statuses l.blockers l.pairs)
+
+abbrev pub decreases-loop-next : goal.decreases-loop-next
+decreases-loop-next l = length l.bytes - l.at

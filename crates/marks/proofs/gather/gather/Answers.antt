@@ -1,0 +1,34 @@
+use Rattle.std.proofs.Common.{◌-◌, length, arith, leb-false, leb-true}
+use Rattle.marks.specs.Marked.{max_candidates}
+use Rattle.marks.proofs.GatherLaws.{Gathered, gathered_none, gathered_more, gathered_done}
+use Rattle.marks.proofs.gather.gather.Goals as goal
+
+pub loop-i-init : goal.loop-i-init
+loop-i-init c =
+    let a = c.args in
+    gathered_none a.candidates.now a.corners.now a.altered.now a.n a.shift
+
+pub loop-i-preserved : goal.loop-i-preserved
+loop-i-preserved c =
+    let r = c.put_corners-used in
+    let l = c.loop-i in
+    let a = c.args in
+    gathered_more a.candidates.now l.candidates a.corners.now a.altered.now a.n l.used l.i a.shift l.invariant c.loop-i-test.true (leb-true l.used max_candidates c.if-used-le-CANDIDATES.true) r.new.0 r.result r.auto.0 r.ensures
+
+pub shape_of-candidates-else-used-le-CANDIDATES : goal.shape_of-candidates-else-used-le-CANDIDATES
+shape_of-candidates-else-used-le-CANDIDATES c = c.loop-i.invariant.long
+
+pub returns-else-used-le-CANDIDATES : goal.returns-else-used-le-CANDIDATES
+returns-else-used-le-CANDIDATES c =
+    let l = c.loop-i in
+    let a = c.args in
+    gathered_done a.candidates.now l.candidates a.corners.now a.altered.now a.n l.used l.i a.shift l.invariant (λ h. absurd (omega (arith, leb-false l.used max_candidates c.if-used-le-CANDIDATES.false)))
+
+pub shape_of-candidates-after-loop-i : goal.shape_of-candidates-after-loop-i
+shape_of-candidates-after-loop-i c = c.loop-i.invariant.long
+
+pub returns-after-loop-i : goal.returns-after-loop-i
+returns-after-loop-i c =
+    let l = c.loop-i in
+    let a = c.args in
+    gathered_done a.candidates.now l.candidates a.corners.now a.altered.now a.n l.used l.i a.shift l.invariant (λ h. c.loop-i-test.false)

@@ -1,0 +1,31 @@
+use Rattle.std.proofs.Common.{◌≡◌, ◌-◌, ap, ◌∙◌, ⊎_elim, arith}
+use Rattle.model.specs.Cell.{Dir}
+use Rattle.model.specs.Corner.{Bits, bit, number}
+use Rattle.marks.specs.Marked.{dir_at}
+use Rattle.marks.proofs.GatherLaws.{Put, put_none, put_pass, put_more, put_done}
+use Rattle.marks.proofs.gather.put_corners.Goals as goal
+use Rattle.marks.proofs.gather.put_corners.Goals.{else-get, then-get}
+
+pub loop-d-init : goal.loop-d-init
+loop-d-init c = let a = c.args in put_none a.candidates.now a.n a.k a.status a.shift
+
+pub shifted-requires : goal.shifted-requires
+shifted-requires c = c.requires
+
+pub loop-d-preserved : goal.loop-d-preserved
+loop-d-preserved c =
+    let l = c.loop-d in
+    let a = c.args in
+    let more = c.loop-d-test.true in
+    let seen : (b : Bits) → a.status ≡ number b → c.get.result ≡ bit (dir_at l.d) b = λ b e. c.get.ensures b e ∙ ap (λ (d : Dir). bit d b) c.corner_at.ensures in
+    elim c.if-get.branch [ then-get w ↦ rw (w.6, w.7)
+    (put_more a.candidates.now l.candidates a.n l.used l.d a.k a.status a.shift more l.invariant c.get.result seen w.0.taken w.2.result w.2.ensures w.3.last.0 w.3.result w.3.kept.0 w.3.ensures) | else-get w ↦ rw (w.1, w.2) (put_pass a.candidates.now l.candidates a.n l.used l.d a.k a.status a.shift more l.invariant c.get.result seen w.0.left) ]
+
+pub shape_of-candidates : goal.shape_of-candidates
+shape_of-candidates c = c.loop-d.invariant.long
+
+pub returns : goal.returns
+returns c =
+    let l = c.loop-d in
+    let a = c.args in
+    put_done a.candidates.now l.candidates a.n l.used l.d a.k a.status a.shift c.loop-d-test.false l.invariant

@@ -1,0 +1,10 @@
+use Rattle.std.proofs.Common.{◌-◌, length, ⊎_elim, arith}
+use Rattle.marks.proofs.EndingLaws.{Counted, counted_none, counted_more, counted_pass, counted_done}
+use Rattle.marks.proofs.points.count.Given as goal
+
+-- `points::count`: word by word. Assumes nothing.
+abbrev pub invariant-loop-i : goal.invariant-loop-i
+invariant-loop-i l = Counted l.moods l.n l.i
+
+abbrev pub decreases-loop-i : goal.decreases-loop-i
+decreases-loop-i l = length l.moods - l.i

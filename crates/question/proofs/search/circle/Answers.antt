@@ -1,0 +1,10 @@
+use borrow.Author.Rules.{rules}
+use Rattle.plane.specs.Values.{pt}
+use Rattle.question.proofs.TakenLaws.{circle_found}
+use Rattle.question.proofs.search.circle.Goals as goal
+
+-- `search::circle`: the walk over the circle's columns and rows. Assumes nothing.
+pub returns : goal.returns
+returns c =
+    let s = c.args in
+    λ a i. circle_found s.size s.cells.now i c.first_round.result c.around.result (pt s.p) c.around-2.result s.radius c.new.result c.around.ensures c.around-2.ensures c.new.ensures (c.first_round.ensures a)

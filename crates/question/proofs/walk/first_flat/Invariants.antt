@@ -1,0 +1,18 @@
+use Prim.Native.Nat.{◌-◌}
+use native.Mathlib.Omega.{arith}
+use mathlib.Core.Path.{sym, ◌∙◌}
+use mathlib.Core.Bool.{and-true}
+use lib.ListN.{get_or, length}
+use borrow.Author.Rules.{rules}
+use Rattle.model.specs.Cell.{col, row}
+use Rattle.shape.specs.Bounds.{in_bounds}
+use Rattle.question.specs.Walk.{Left, flat}
+use Rattle.question.proofs.WalkLaws.{Stepped, left_cell, left_end, left_past, left_step}
+use Rattle.question.proofs.walk.first_flat.Given as goal
+
+-- `walk::first_flat`: what is left of the table has the same first cell. Assumes nothing.
+abbrev pub invariant-loop-i : goal.invariant-loop-i
+invariant-loop-i l = Left l.columns (flat l.rows) l.cells l.i
+
+abbrev pub decreases-loop-i : goal.decreases-loop-i
+decreases-loop-i l = length l.cells - l.i

@@ -1,0 +1,17 @@
+use native.Mathlib.Omega.{arith}
+use mathlib.Core.Path.{sym, ap, ◌∙◌}
+use borrow.Author.Rules.{rules}
+use Rattle.question.specs.Walk.{flat, keyed, row_taken}
+use Rattle.question.proofs.WalkLaws.{find_past, row_first}
+use Rattle.question.proofs.walk.lowest.Goals as goal
+
+-- `walk::lowest`: nothing behind the first of a column's cells has a lower row. Assumes nothing.
+pub returns-then-rows-eq0 : goal.returns-then-rows-eq0
+returns-then-rows-eq0 c =
+    let s = c.args in
+    λ x b a o. c.nothing.ensures ∙ ap keyed (sym (find_past (row_taken s.high (flat b)) s.rows.now 0 (omega arith)))
+
+pub returns : goal.returns
+returns c =
+    let s = c.args in
+    λ x b a o. c.only.ensures ∙ ap keyed (row_first s.high b s.rows.now (omega arith) x a o)

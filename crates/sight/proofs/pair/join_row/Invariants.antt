@@ -1,0 +1,13 @@
+use Prim.Native.Nat.{◌+◌, ◌-◌, ◌*◌, ◌≤◌, ◌<◌}
+use native.Mathlib.Omega.{arith}
+use borrow.Author.Rules.{rules}
+use lib.ListN.{length, length-set}
+use Rattle.sight.proofs.JoinLaws.{Row, row_end, row_more, row_start, told_at}
+use Rattle.sight.proofs.pair.join_row.Given as goal
+
+-- `pair::join_row`: the pairs up to the j-th point are written, from both ends. Assumes nothing.
+abbrev pub invariant-loop-j : goal.invariant-loop-j
+invariant-loop-j l = Row l.size l.radius l.proximity l.cells l.confirmed l.full l.points l.moods l.old l.i l.j l.initial.out l.out
+
+abbrev pub decreases-loop-j : goal.decreases-loop-j
+decreases-loop-j l = length l.points - l.j

@@ -1,0 +1,18 @@
+use Prim.Native.Nat.{◌-◌, ◌*◌, ◌^◌, ◌<◌, ◌≤◌}
+use native.Mathlib.Omega.{arith}
+use mathlib.Core.Path.{refl, sym, ◌∙◌}
+use mathlib.Core.Logic.{⊎_elim}
+use borrow.Author.Rules.{rules}
+use lib.ListN.{length, get_or}
+use Rattle.model.specs.Map.{tests}
+use Rattle.sight.proofs.EdgeLaws.{Running, running_end, running_freed, running_kept, running_missed, running_passed, running_start}
+use Rattle.segment.specs.Many.{prepared}
+use Rattle.sight.proofs.NearLaws.{prepared_answers}
+use Rattle.sight.proofs.pair.run_pair.Given as goal
+
+-- `pair::run_pair`: the blocker so far, and the changes that are left. Assumes nothing.
+abbrev pub invariant-loop-i : goal.invariant-loop-i
+invariant-loop-i l = Running l.size l.radius l.cells l.p l.q (prepared l.test) l.confirmed l.full l.start l.i l.block
+
+abbrev pub decreases-loop-i : goal.decreases-loop-i
+decreases-loop-i l = length l.confirmed - l.i

@@ -1,0 +1,59 @@
+use Prim.Native.Nat.{◌<◌}
+use native.Mathlib.Omega.{arith}
+use mathlib.Core.Path.{◌≡◌, sym, ◌∙◌}
+use mathlib.Core.Bool.{true}
+use lib.ListN.{take}
+use lib.Seq.{length-take-le}
+use borrow.Author.Rules.{rules}
+use Rattle.model.specs.Maps.{cut}
+use Rattle.table.specs.Tables.{stands}
+use Rattle.table.proofs.LookLaws.{absent, stands_inside}
+use Rattle.table.proofs.TableLaws.{changed_none, removed}
+use Rattle.table.proofs.change.remove.Goals as goal
+
+-- `change::remove`: nothing is altered where k does not stand there. Assumes nothing.
+pub returns-then-t-n : goal.returns-then-t-n
+returns-then-t-n c =
+    let s = c.args in
+    changed_none (cut s.k) s.t.now s.n (λ T. absurd (omega arith))
+
+pub slice_bounds-place-end-2 : goal.slice_bounds-place-end-2
+slice_bounds-place-end-2 c = let s = c.args in sym (length-take-le s.n s.t.now (omega arith))
+
+pub slice_bounds-stands_at-end-2 : goal.slice_bounds-stands_at-end-2
+slice_bounds-stands_at-end-2 c = let s = c.args in sym (length-take-le s.n s.t.now (omega arith))
+
+pub offset_bounds-t-at : goal.offset_bounds-t-at
+offset_bounds-t-at c =
+    let seen : let s = c.args in stands s.k c.place-at.result (take s.n s.t.now) ≡ true = sym c.stands_at.ensures ∙ c.if-stands_at.true in
+    let within : c.place-at.result < c.args.n = let s = c.args in
+    omega (arith, stands_inside s.k c.place-at.result (take s.n s.t.now) (seen), length-take-le s.n s.t.now (omega arith)) in
+    omega (arith, within)
+
+pub slice_bounds-shift_down-count : goal.slice_bounds-shift_down-count
+slice_bounds-shift_down-count c =
+    let seen : let s = c.args in stands s.k c.place-at.result (take s.n s.t.now) ≡ true = sym c.stands_at.ensures ∙ c.if-stands_at.true in
+    let within : c.place-at.result < c.args.n = let s = c.args in
+    omega (arith, stands_inside s.k c.place-at.result (take s.n s.t.now) (seen), length-take-le s.n s.t.now (omega arith)) in
+    omega (arith, within)
+
+pub overflow_sub-result : goal.overflow_sub-result
+overflow_sub-result c =
+    let seen : let s = c.args in stands s.k c.place-at.result (take s.n s.t.now) ≡ true = sym c.stands_at.ensures ∙ c.if-stands_at.true in
+    let within : c.place-at.result < c.args.n = let s = c.args in
+    omega (arith, stands_inside s.k c.place-at.result (take s.n s.t.now) (seen), length-take-le s.n s.t.now (omega arith)) in
+    omega (arith, within)
+
+pub returns-then-stands_at : goal.returns-then-stands_at
+returns-then-stands_at c =
+    let seen : let s = c.args in stands s.k c.place-at.result (take s.n s.t.now) ≡ true = sym c.stands_at.ensures ∙ c.if-stands_at.true in
+    let s = c.args in
+    removed s.t.now s.n s.k c.place-at.result c.place-at.ensures.1 c.shift_down.new.0
+    c.if-t-n.false (seen) c.shift_down.ensures
+
+pub returns : goal.returns
+returns c =
+    let s = c.args in
+    let u = take s.n s.t.now in
+    let gone = sym c.stands_at.ensures ∙ c.if-stands_at.false in
+    changed_none (cut s.k) s.t.now s.n (λ T. (absent s.k c.place-at.result u T.asc (c.place-at.ensures.1 T.asc) gone).took)

@@ -1,0 +1,7 @@
+use borrow.Author.Rules.{rules}
+use Rattle.table.proofs.SearchLaws.{power_is}
+use Rattle.table.proofs.look.power.Goals as goal
+
+-- `look::power`: 2 ^ s is below 2 ^ 64. Assumes nothing.
+pub returns : goal.returns
+returns c = power_is c.args.s c.requires

@@ -1,0 +1,13 @@
+use mathlib.Core.Path.{refl}
+use mathlib.Core.List.{[]}
+use borrow.Author.Rules.{rules}
+use Rattle.limits.proofs.WordLaws.{due_added, judged, none_added}
+use Rattle.visibility.proofs.open.judge.Goals as goal
+
+-- `open::judge`: what is due is added to the word from the last to the first. Assumes nothing.
+pub returns : goal.returns
+returns c =
+    judged _ c.first_due.ensures
+    (due_added 9 0 _ _ c.due-2.ensures refl refl
+    (due_added 1 0 _ _ c.due-known.ensures refl c.bad_size.ensures
+    (due_added 2 0 _ [] c.due.ensures refl c.bad_radius.ensures (none_added 0))))

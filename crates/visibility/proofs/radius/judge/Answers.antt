@@ -1,0 +1,17 @@
+use mathlib.Core.Path.{refl}
+use mathlib.Core.List.{[]}
+use borrow.Author.Rules.{rules}
+use Rattle.limits.proofs.WordLaws.{due_added, none_added}
+use Rattle.visibility.proofs.RefuseLaws.{radius_judged}
+use Rattle.visibility.proofs.radius.judge.Goals as goal
+
+-- `radius::judge`: what is due is added to the word from the last to the first. Assumes nothing.
+pub returns : goal.returns
+returns c =
+    let a = c.args in
+    radius_judged a.short a.map a.radius c.first_due.ensures
+    (due_added 9 0 _ _ c.due-3.ensures refl refl
+    (due_added 1 0 _ _ c.due-2.ensures refl c.bad_size.ensures
+    (due_added 2 0 _ _ c.due-known.ensures refl c.bad_radii.ensures
+    (due_added 6 0 _ _ c.due-room.ensures refl refl
+    (due_added 7 0 _ [] c.due.ensures refl refl (none_added 0))))))
