@@ -61,7 +61,7 @@ pub unsorted_next : (b : List ℤ) (i : ℕ) (t : Bool) → i + 5 < length b
 unfolding unsorted
 unsorted_next b i t h e =
     let four : i + 3 + 1 ≡ i + 4 = omega arith in
-    rw (e, entries_cons b i (omega arith), entries_cons b (i + 3) (omega arith), four)
+    rw (e, entries_cons b i (omega arith), entries_cons b (i + 3) (omega arith), ← four)
 
 one : (l : List Entry) → length l ≤ 1 → unsorted l ≡ false
 unfolding unsorted

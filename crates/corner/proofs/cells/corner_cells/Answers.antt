@@ -26,7 +26,7 @@ loop-i-preserved c =
     let l = c.loop-i in
     let a = c.args in
     let s = c.status_of-s in
-    elim c.if-s-ne0.branch [ then-s-ne0 w ↦ rw (w.2, w.3, w.4) (corners_put a.cells.now a.out.now l.out a.statuses.now l.statuses l.n l.i s.result c.loop-i-test.true c.if-out-cells.false c.if-statuses-cells.false s.ensures l.invariant w.0.taken) | else-s-ne0 w ↦ rw (w.1, w.2, w.3) (corners_pass a.cells.now a.out.now l.out a.statuses.now l.statuses l.n l.i s.result c.loop-i-test.true c.if-out-cells.false c.if-statuses-cells.false s.ensures l.invariant w.0.left) ]
+    elim c.if-s-ne0.branch [ then-s-ne0 w ↦ rw (w.out-is, w.statuses-is, w.n-is) (corners_put a.cells.now a.out.now l.out a.statuses.now l.statuses l.n l.i s.result c.loop-i-test.true c.if-out-cells.false c.if-statuses-cells.false s.ensures l.invariant w.if-s-ne0.true) | else-s-ne0 w ↦ rw (w.out-is, w.statuses-is, w.n-is) (corners_pass a.cells.now a.out.now l.out a.statuses.now l.statuses l.n l.i s.result c.loop-i-test.true c.if-out-cells.false c.if-statuses-cells.false s.ensures l.invariant w.if-s-ne0.false) ]
 
 pub shape_of-out : goal.shape_of-out
 shape_of-out c = c.loop-i.invariant.cells

@@ -33,7 +33,7 @@ loop-i-preserved c =
     let l = c.loop-i in
     let a = c.args in
     let r = c.put_around-n in
-    sofar_next a.cells.now a.confirmed.now a.out.now l.out r.new.1.1.1.0 a.statuses.now l.statuses r.new.1.1.1.1.0 l.n l.i r.result c.loop-i-test.true c.if-out-room.false c.if-statuses-room.false l.invariant r.auto.1.1.1.0 r.auto.1.1.1.1.0 r.ensures.0 r.ensures.1
+    sofar_next a.cells.now a.confirmed.now a.out.now l.out r.new.out a.statuses.now l.statuses r.new.statuses l.n l.i r.result c.loop-i-test.true c.if-out-room.false c.if-statuses-room.false l.invariant r.auto.out r.auto.statuses r.ensures.0 r.ensures.1
 
 pub returns : goal.returns
 returns c =

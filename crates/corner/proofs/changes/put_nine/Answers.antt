@@ -19,9 +19,12 @@ loop-d-preserved c =
     let f = picked_at a.low a.fresh a.w.sw a.w.se a.w.nw a.w.ne in
     let room = c.requires in
     let more = c.loop-d-test.true in
-    elim c.if-bit-eq1.branch [ then-bit-eq1 w ↦ rw (w.2, w.3, w.4)
-    (gathering_put (Unit {0}) 9 f a.out.now a.statuses.now a.n l.out l.statuses l.m l.d more room.1 room.2 l.invariant (inner_cell a.low l.d) w.1.result (λ t. rw w.1.ensures (picked_some a.low a.fresh a.w.sw a.w.se a.w.nw a.w.ne l.d w.0.taken))) | else-bit-eq1 w ↦ rw (w.1, w.2, w.3)
-    (gathering_pass (Unit {0}) 9 f a.out.now a.statuses.now a.n l.out l.statuses l.m l.d more room.1 room.2 l.invariant (λ t. picked_none a.low a.fresh a.w.sw a.w.se a.w.nw a.w.ne l.d w.0.left)) ]
+    elim c.if-bit-eq1.branch [
+      | then-bit-eq1 w ↦ rw (w.out-is, w.statuses-is, w.m-is)
+          (gathering_put (Unit {0}) 9 f a.out.now a.statuses.now a.n l.out l.statuses l.m l.d more room.1 room.2 l.invariant (inner_cell a.low l.d) w.status_at.result (λ t. rw w.status_at.ensures (picked_some a.low a.fresh a.w.sw a.w.se a.w.nw a.w.ne l.d w.if-bit-eq1.true)))
+      | else-bit-eq1 w ↦ rw (w.out-is, w.statuses-is, w.m-is)
+          (gathering_pass (Unit {0}) 9 f a.out.now a.statuses.now a.n l.out l.statuses l.m l.d more room.1 room.2 l.invariant (λ t. picked_none a.low a.fresh a.w.sw a.w.se a.w.nw a.w.ne l.d w.if-bit-eq1.false))
+    ]
 
 pub returns : goal.returns
 returns c =

@@ -15,16 +15,14 @@ returns-then-contains-2 c = (λ h. rw (sym (c.contains.ensures h) ∙ c.if-conta
 
 pub returns-then-contains-3 : goal.returns-then-contains-3
 unfolding bit_if
-returns-then-contains-3 c =
-    (
-      λ h. rw (sym (c.contains.ensures h) ∙ c.if-contains.false, sym (c.contains-2.ensures h) ∙ c.if-contains-2.false, sym (c.contains-3.ensures h) ∙ c.if-contains-3.true) refl,
-      omega arith,
-    )
+returns-then-contains-3 c = (
+  λ h. rw (sym (c.contains.ensures h) ∙ c.if-contains.false, sym (c.contains-2.ensures h) ∙ c.if-contains-2.false, sym (c.contains-3.ensures h) ∙ c.if-contains-3.true) refl,
+  omega arith,
+)
 
 pub returns : goal.returns
 unfolding bit_if
-returns c =
-    (
-      λ h. rw (sym (c.contains.ensures h) ∙ c.if-contains.false, sym (c.contains-2.ensures h) ∙ c.if-contains-2.false, sym (c.contains-3.ensures h) ∙ c.if-contains-3.false) refl,
-      omega arith,
-    )
+returns c = (
+  λ h. rw (sym (c.contains.ensures h) ∙ c.if-contains.false, sym (c.contains-2.ensures h) ∙ c.if-contains-2.false, sym (c.contains-3.ensures h) ∙ c.if-contains-3.false) refl,
+  omega arith,
+)

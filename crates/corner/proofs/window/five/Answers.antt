@@ -18,7 +18,7 @@ loop-j-preserved c =
     let l = c.loop-j in
     let s = c.stands_at in
     let more = c.loop-j-test.true in
-    elim c.if-stands_at.branch [ then-stands_at w ↦ rw (w.1, w.2) (row_hit a.t.now a.base l.at l.bits l.bit l.j more l.invariant (sym s.ensures ∙ w.0.taken)) | else-stands_at w ↦ rw (w.1, w.2) (row_miss a.t.now a.base l.at l.bits l.bit l.j more l.invariant (sym s.ensures ∙ w.0.left)) ]
+    elim c.if-stands_at.branch [ then-stands_at w ↦ rw (w.at-is, w.bits-is) (row_hit a.t.now a.base l.at l.bits l.bit l.j more l.invariant (sym s.ensures ∙ w.if-stands_at.true)) | else-stands_at w ↦ rw (w.at-is, w.bits-is) (row_miss a.t.now a.base l.at l.bits l.bit l.j more l.invariant (sym s.ensures ∙ w.if-stands_at.false)) ]
 
 pub returns : goal.returns
 returns c =

@@ -10,8 +10,8 @@ returns-then-x c = abs_below c.args.x c.if-x.true
 
 pub returns-then-x-2 : goal.returns-then-x-2
 unfolding of_bits
-returns-then-x-2 c = abs_zero c.args.x (T_true c.ranges.0.1) c.if-x-2.true
+returns-then-x-2 c = abs_zero c.args.x (T_true c.well_formed.0.1) c.if-x-2.true
 
 pub returns : goal.returns
 unfolding of_bits
-returns c = abs_above c.args.x (T_true c.ranges.0.1) c.if-x.false c.if-x-2.false
+returns c = abs_above c.args.x (T_true c.well_formed.0.1) c.if-x.false c.if-x-2.false

@@ -1,4 +1,4 @@
-use Rattle.std.proofs.Common.{ℕ, ◌*◌, ◌/◌, ◌%◌, ◌^◌, ◌<◌, arith, w64, Fits, rules}
+use Rattle.std.proofs.Common.{ℕ, ◌*◌, ◌/◌, ◌%◌, ◌^◌, ◌<◌, arith, w64, Fits}
 use Rattle.ieee.proofs.RootChecked.{prod_lt, low, high, excess_is}
 use Rattle.ieee.proofs.root.excess.Goals as goal
 
@@ -20,4 +20,4 @@ returns c =
     λ h.
     excess_is c.args.m c.args.c c.wrapping_sub_u64-d.result c.wrapping_sub_u64-e.result c.wrapping_sub_u64.result
     c.requires c.if-d-ge68719476736.false c.if-e-ge68719476736.false h
-    c.wrapping_sub_u64-d.ensures c.wrapping_sub_u64-e.ensures c.wrapping_sub_u64.ensures
+    c.wrapping_sub_u64-d.ensures.value c.wrapping_sub_u64-e.ensures.value c.wrapping_sub_u64.ensures.value

@@ -13,16 +13,16 @@ float_to_bits-b c = let x = c.args.x in not_nan x (lt_some_right nought x c.if-x
 pub root_positive-requires : goal.root_positive-requires
 unfolding of_bits
 root_positive-requires c =
-    (some_bits c.args.x (T_true c.ranges.0.1) c.if-x.true, c.if-b-lt9218868437227405312.true)
+    (some_bits c.args.x (T_true c.well_formed.0.1) c.if-x.true, c.if-b-lt9218868437227405312.true)
 
 pub returns-then-b-lt9218868437227405312 : goal.returns-then-b-lt9218868437227405312
 unfolding of_bits
 returns-then-b-lt9218868437227405312 c =
-    c.root_positive.ensures ∙ root_finite c.args.x (T_true c.ranges.0.1) c.if-x.true c.if-b-lt9218868437227405312.true
+    c.root_positive.ensures ∙ root_finite c.args.x (T_true c.well_formed.0.1) c.if-x.true c.if-b-lt9218868437227405312.true
 
 pub returns-then-x : goal.returns-then-x
 unfolding of_bits
-returns-then-x c = root_endless c.args.x (T_true c.ranges.0.1) c.if-x.true c.if-b-lt9218868437227405312.false
+returns-then-x c = root_endless c.args.x (T_true c.well_formed.0.1) c.if-x.true c.if-b-lt9218868437227405312.false
 
 pub returns-then-x-2 : goal.returns-then-x-2
 unfolding of_bits div

@@ -1,5 +1,4 @@
-use Rattle.std.proofs.Common.{⊎_elim, arith}
-use Rattle.ieee.proofs.RootLoop.{Turn, start, skipped, taken, ends}
+use Rattle.ieee.proofs.RootLoop.{Turn}
 use Rattle.ieee.proofs.root.root_bits.Given as goal
 
 -- `ieee::root::root_bits` meets its contract. Assumes nothing.

@@ -1,4 +1,4 @@
-use Rattle.std.proofs.Common.{◌+◌, ◌-◌, ◌*◌, ◌/◌, arith, rules}
+use Rattle.std.proofs.Common.{◌+◌, ◌-◌, ◌*◌, ◌/◌, arith}
 use Rattle.ieee.proofs.RootBits.{no_nan_bits}
 use Rattle.ieee.proofs.Tools.{lt_some_right, not_nan}
 use Rattle.ieee.proofs.root.root_guess.Goals as goal

@@ -1,4 +1,4 @@
-use Rattle.std.proofs.Common.{arith, rules}
+use Rattle.std.proofs.Common.{arith}
 use Rattle.ieee.specs.RootSteps.{bit_units}
 use Rattle.ieee.proofs.RootScaled.{zeros_range, moved_scaled, moved_value, normal_value}
 use Rattle.ieee.proofs.root.root_positive.Goals as goal

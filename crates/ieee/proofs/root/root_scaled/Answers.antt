@@ -1,4 +1,4 @@
-use Rattle.std.proofs.Common.{arith, rules}
+use Rattle.std.proofs.Common.{arith}
 use Rattle.ieee.proofs.RootScaled.{scaled_range, scaled_bits, scaled_root}
 use Rattle.ieee.proofs.RootBits.{no_nan_bits}
 use Rattle.ieee.proofs.root.root_scaled.Goals as goal

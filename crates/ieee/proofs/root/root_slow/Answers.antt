@@ -1,4 +1,4 @@
-use Rattle.std.proofs.Common.{◌*◌, ◌^◌, arith, rules}
+use Rattle.std.proofs.Common.{◌*◌, ◌^◌, arith}
 use Rattle.ieee.proofs.Squares.{root_lt}
 use Rattle.ieee.proofs.RootChecked.{rounded_slow}
 use Rattle.ieee.proofs.root.root_slow.Goals as goal

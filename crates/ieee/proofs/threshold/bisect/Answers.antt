@@ -1,11 +1,10 @@
 use Rattle.std.proofs.Common.{◌+◌, ◌-◌, ◌/◌, sym, ◌∙◌, arith}
-use Rattle.ieee.specs.ThresholdSteps.{Between}
 use Rattle.ieee.proofs.Tools.{T_true}
 use Rattle.ieee.proofs.Thresholds.{search_ends, search_down, search_up, search_over}
 use Rattle.ieee.proofs.threshold.bisect.Goals as goal
 
 pub loop-lo-init : goal.loop-lo-init
-loop-lo-init c = search_ends c.args.b (T_true c.ranges.0.1) c.requires
+loop-lo-init c = search_ends c.args.b (T_true c.well_formed.0.1) c.requires
 
 pub loop-lo-preserved-then-reaches : goal.loop-lo-preserved-then-reaches
 loop-lo-preserved-then-reaches c =

@@ -1,7 +1,5 @@
-use Rattle.std.proofs.Common.{◌+◌, ◌-◌, ◌/◌, sym, ◌∙◌, arith}
+use Rattle.std.proofs.Common.{◌-◌}
 use Rattle.ieee.specs.ThresholdSteps.{Between}
-use Rattle.ieee.proofs.Tools.{T_true}
-use Rattle.ieee.proofs.Thresholds.{search_ends, search_down, search_up, search_over}
 use Rattle.ieee.proofs.threshold.bisect.Given as goal
 
 -- `ieee::threshold::bisect` meets its contract. The loop's invariant: the root at `lo` is not at least b, and the one at `hi` is. Assumes nothing.

@@ -1,4 +1,4 @@
-use Rattle.std.proofs.Common.{sym, ◌∙◌, arith, rules}
+use Rattle.std.proofs.Common.{sym, ◌∙◌, arith}
 use Rattle.ieee.proofs.Thresholds.{none_first, this_first, next_first}
 use Rattle.ieee.proofs.threshold.from_guess.Goals as goal
 

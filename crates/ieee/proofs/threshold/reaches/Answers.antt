@@ -1,4 +1,4 @@
-use Rattle.std.proofs.Common.{ap, rules}
+use Rattle.std.proofs.Common.{ap}
 use lib.Ieee.{le}
 use Rattle.ieee.proofs.RootBits.{no_nan_bits}
 use Rattle.ieee.proofs.threshold.reaches.Goals as goal

@@ -1,4 +1,4 @@
-use Rattle.std.proofs.Common.{◌≡◌, ◌-◌, ◌*◌, ◌^◌, ◌≤◌, true, arith, rules}
+use Rattle.std.proofs.Common.{◌≡◌, ◌-◌, ◌*◌, ◌^◌, ◌≤◌, true, arith}
 use lib.Ieee.{binary64, mul, lt, of_bits, to_bits}
 use Rattle.ieee.specs.Constants.{nought}
 use Rattle.ieee.proofs.Tools.{T_true, not_nan}
@@ -14,7 +14,7 @@ returns-then-b c = nan_threshold c.args.b c.if-b.true
 
 pub returns-then-b-2 : goal.returns-then-b-2
 unfolding of_bits
-returns-then-b-2 c = low_threshold c.args.b (T_true c.ranges.0.1) c.if-b-2.true
+returns-then-b-2 c = low_threshold c.args.b (T_true c.well_formed.0.1) c.if-b-2.true
 
 pub float_to_bits-q : goal.float_to_bits-q
 float_to_bits-q c = let b = c.args.b in not_nan b (no_nan b c.if-b.false)
@@ -23,14 +23,14 @@ pub overflow_sub-q : goal.overflow_sub-q
 unfolding of_bits
 overflow_sub-q c =
     let above : lt nought c.args.b ≡ true = above_zero c.args.b c.if-b.false c.if-b-2.false in
-    some_bits c.args.b (T_true c.ranges.0.1) (above)
+    some_bits c.args.b (T_true c.well_formed.0.1) (above)
 
 pub float_from_bits-q : goal.float_from_bits-q
 unfolding of_bits
 float_from_bits-q c =
     let above : lt nought c.args.b ≡ true = above_zero c.args.b c.if-b.false c.if-b-2.false in
     let n = to_bits binary64 c.args.b in
-    let h : n ≤ 2047 * 2 ^ 52 = above_range c.args.b (T_true c.ranges.0.1) (above) in
+    let h : n ≤ 2047 * 2 ^ 52 = above_range c.args.b (T_true c.well_formed.0.1) (above) in
     no_nan_bits (n - 1) (omega arith)
 
 pub float_to_bits-q-then-q : goal.float_to_bits-q-then-q
@@ -46,7 +46,7 @@ pub returns-then-n-gt0 : goal.returns-then-n-gt0
 unfolding of_bits
 returns-then-n-gt0 c =
     let above : lt nought c.args.b ≡ true = above_zero c.args.b c.if-b.false c.if-b-2.false in
-    first_threshold c.args.b c.from_guess-n.result (T_true c.ranges.0.1) (above) (c.from_guess-n.ensures c.if-n-gt0.true)
+    first_threshold c.args.b c.from_guess-n.result (T_true c.well_formed.0.1) (above) (c.from_guess-n.ensures c.if-n-gt0.true)
 
 pub bisect-requires : goal.bisect-requires
 unfolding of_bits
@@ -61,4 +61,4 @@ pub returns : goal.returns
 unfolding of_bits
 returns c =
     let above : lt nought c.args.b ≡ true = above_zero c.args.b c.if-b.false c.if-b-2.false in
-    first_threshold c.args.b c.bisect.result (T_true c.ranges.0.1) (above) c.bisect.ensures
+    first_threshold c.args.b c.bisect.result (T_true c.well_formed.0.1) (above) c.bisect.ensures

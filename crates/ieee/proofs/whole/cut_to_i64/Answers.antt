@@ -1,4 +1,3 @@
-use Rattle.std.proofs.Common.{rules}
 use lib.Ieee.{neg, of_bits}
 use Rattle.ieee.proofs.Tools.{T_true}
 use Rattle.ieee.proofs.Cut.{cut_high, cut_low, cut_nan}
@@ -7,7 +6,7 @@ use Rattle.ieee.proofs.whole.cut_to_i64.Goals as goal
 -- `ieee::whole::cut_to_i64` meets its contract. The laws are in `proofs/Cut.antt`. Assumes nothing.
 pub truncating_f64_to_i64-requires : goal.truncating_f64_to_i64-requires
 unfolding of_bits neg
-truncating_f64_to_i64-requires c = (T_true c.if-x.true, T_true c.if-x-2.true)
+truncating_f64_to_i64-requires c = record { lower_bound = T_true c.if-x.true; upper_bound = T_true c.if-x-2.true }
 
 pub returns-then-x : goal.returns-then-x
 unfolding of_bits neg

@@ -11,7 +11,7 @@ use Rattle.ieee.specs.Whole.{ceil_z}
 use Rattle.ieee.specs.Yard.{shift_f}
 use Rattle.limits.proofs.RadiusLaws.{over, radius_endless, radius_far, radius_low}
 use Rattle.limits.proofs.radius.bad_radius.Goals as goal
-use Rattle.limits.proofs.radius.bad_radius.Goals.{else-else-radius, then-else-radius}
+use Rattle.limits.proofs.radius.bad_radius.Goals.{else-radius-via-else-radius, else-radius-via-then-radius+else-radius-2}
 
 -- `radius::bad_radius`: the tests are the model's. Assumes nothing.
 pub float_from_bits-t-4 : goal.float_from_bits-t-4
@@ -29,4 +29,4 @@ pub returns : goal.returns
 unfolding of_bits odd
 returns c =
     let a = c.args in
-    elim c.else-radius.branch [ then-else-radius w ↦ sym (radius_endless a.size a.radius w.1.left) | else-else-radius w ↦ sym (radius_low a.size a.radius w.left) ]
+    elim c.else-radius.branch [ else-radius-via-then-radius+else-radius-2 w ↦ sym (radius_endless a.size a.radius w.if-radius-2.false) | else-radius-via-else-radius w ↦ sym (radius_low a.size a.radius w.if-radius.false) ]

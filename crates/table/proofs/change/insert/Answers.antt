@@ -42,5 +42,5 @@ put_at-requires c =
 pub returns : goal.returns
 returns c =
     let s = c.args in
-    inserted s.t.now s.n s.k c.place-at.result c.place-at.ensures.1 c.put_at.new.0
+    inserted s.t.now s.n s.k c.place-at.result c.place-at.ensures.1 c.put_at.new.t
     c.if-t-n.false (sym c.stands_at.ensures ∙ c.if-stands_at.false) c.put_at.ensures

@@ -48,7 +48,7 @@ pub returns-then-stands_at : goal.returns-then-stands_at
 returns-then-stands_at c =
     let seen : let s = c.args in stands s.k c.place-at.result (take s.n s.t.now) ≡ true = sym c.stands_at.ensures ∙ c.if-stands_at.true in
     let s = c.args in
-    removed s.t.now s.n s.k c.place-at.result c.place-at.ensures.1 c.shift_down.new.0
+    removed s.t.now s.n s.k c.place-at.result c.place-at.ensures.1 c.shift_down.new.t
     c.if-t-n.false (seen) c.shift_down.ensures
 
 pub returns : goal.returns

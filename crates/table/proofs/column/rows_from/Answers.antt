@@ -11,19 +11,19 @@ use Rattle.table.specs.Tables.{rank}
 use Rattle.table.proofs.AllLaws.{all_at}
 use Rattle.table.proofs.ColumnLaws.{rows_are, rows_empty, rows_none}
 use Rattle.table.proofs.column.rows_from.Goals as goal
-use Rattle.table.proofs.column.rows_from.Goals.{else-then-col-eq0, then-then-col-eq0}
+use Rattle.table.proofs.column.rows_from.Goals.{then-col-eq0-via-else-col-eq0+then-y-ge-COLUMN, then-col-eq0-via-then-col-eq0}
 
 -- `column::rows_from`: one search, for the first key of the row. Assumes nothing.
 pub returns-then-col-eq0 : goal.returns-then-col-eq0
 returns-then-col-eq0 c =
     let s = c.args in
-    λ x a i. elim c.then-col-eq0.branch [ then-then-col-eq0 w ↦ rows_empty s.y s.col.now w.taken | else-then-col-eq0 w ↦ rows_none s.y s.col.now (leb-true W s.y w.1.taken) ]
+    λ x a i. elim c.then-col-eq0.branch [ then-col-eq0-via-then-col-eq0 w ↦ rows_empty s.y s.col.now w.if-col-eq0.true | then-col-eq0-via-else-col-eq0+then-y-ge-COLUMN w ↦ rows_none s.y s.col.now w.if-y-ge-COLUMN.true ]
 
 pub overflow_mul-col : goal.overflow_mul-col
 overflow_mul-col c = omega (arith, c.shared_slice_known-2-1.given 0)
 
 pub overflow_add-col : goal.overflow_add-col
-overflow_add-col c = omega (arith, c.shared_slice_known-2-1.given 0, leb-false W c.args.y c.if-y-ge-COLUMN.false)
+overflow_add-col c = omega (arith, c.shared_slice_known-2-1.given 0, c.if-y-ge-COLUMN.false)
 
 pub returns : goal.returns
 returns c =
