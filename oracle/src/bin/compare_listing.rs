@@ -14,11 +14,11 @@ const PROGRAM: Program<3> = Program {
     does: "Runs a program on random map files, and compares what it prints with the listings of the Rust.\n\
            The first file that differs is told in hexadecimal digits.",
     arguments: [
-        ("PROGRAM", "what lists a map file: target/bin/listing, which `rt check listing` makes"),
+        ("PROGRAM", "what lists a map file: crates/listing/out/listing, which `rt run` in crates/listing makes"),
         ("FILES", "how many files, at least 1"),
         ("SEED", "which files: each number gives others"),
     ],
-    example: ["target/bin/listing", "150000", "1"],
+    example: ["crates/listing/out/listing", "150000", "1"],
 };
 
 /// What the program prints for a file on its standard input.

@@ -137,10 +137,10 @@ fn claim_run(dice: &mut Random, name: &str) -> Option<String> {
     let neighbours = map.neighbors(from).map(|c| key(&c));
     Some(format!(
         "\nunfoldable {name} : Map\n{name} = run {} (opened {} {})\n\n\
-         {name}-is : T (is {name} {} {} {})\nunfolding everything is flatPoints flatPairs {name}\n{name}-is = tt\n\n\
-         {name}-open : T (same (flatEnds (openPairs {name})) {})\nunfolding everything flatEnds {name}\n{name}-open = tt\n\n\
-         {name}-visible : T (same (visibleFrom {name} {}) {})\nunfolding everything {name}\n{name}-visible = tt\n\n\
-         {name}-neighbours : T (same (neighbours {name} {}) {})\nunfolding everything {name}\n{name}-neighbours = tt",
+         {name}_is : T (is {name} {} {} {})\nunfolding everything is flat_points flat_pairs {name}\n{name}_is = tt\n\n\
+         {name}_open : T (same (flat_ends (open_pairs {name})) {})\nunfolding everything flat_ends {name}\n{name}_open = tt\n\n\
+         {name}_visible : T (same (visible_from {name} {}) {})\nunfolding everything {name}\n{name}_visible = tt\n\n\
+         {name}_neighbours : T (same (neighbours {name} {}) {})\nunfolding everything {name}\n{name}_neighbours = tt",
         list(operations), float(size), float(radius), cells, points, pairs,
         open, key(&from), list(visible), key(&from), list(neighbours),
     ))
@@ -182,7 +182,7 @@ fn claim_question(dice: &mut Random, name: &str) -> String {
         ),
     };
     format!(
-        "\n{name} : T (eqb (cell? (ask {} {} ({question}) .cell)) {})\nunfolding everything ask\n{name} = tt",
+        "\n{name} : T (eqb (cell? (ask {} {} ({question})).cell) {})\nunfolding everything ask\n{name} = tt",
         float(size), list(batch.keys().map(key)), blocker(&found),
     )
 }
