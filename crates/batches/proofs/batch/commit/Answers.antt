@@ -15,4 +15,4 @@ returns c =
     let i = c.put_in in
     let o = c.take_out-used in
     let a = c.args in
-    commit_is a.confirmed.now a.full.now a.cells.now a.n o.new.0 o.result i.new.0 i.result o.ensures i.ensures o.auto.0 (i.auto.0 ∙ o.auto.0)
+    commit_is a.confirmed.now a.full.now a.cells.now a.n o.new.cells o.result i.new.cells i.result o.ensures i.ensures o.auto.cells (i.auto.cells ∙ o.auto.cells)

@@ -1,12 +1,12 @@
 use Prim.Native.Nat.{◌-◌}
 use native.Mathlib.Omega.{arith}
-use mathlib.Core.Logic.{⊎_elim}
 use lib.ListN.{length}
 use borrow.Author.Rules.{rules}
 use Rattle.model.proofs.RunLaws.{batch_ascends}
 use Rattle.limits.specs.Batches.{entries}
 use Rattle.batches.proofs.ListingLaws.{Counted, Looked, counted_start, counted_more, counted_less, counted_same, counted_end}
 use Rattle.batches.proofs.batch.count_after.Goals as goal
+use Rattle.batches.proofs.batch.count_after.Goals.{then-alters+then-full, then-alters+else-full, else-alters}
 
 pub loop-i-init : goal.loop-i-init
 loop-i-init c = let a = c.args in counted_start a.cells.now a.batch.now
@@ -15,12 +15,11 @@ pub loop-i-preserved : goal.loop-i-preserved
 loop-i-preserved c =
     let looked : let a = c.args in Looked a.cells.now a.batch.now c.loop-i.i c.key_at.result c.full_at-full.result c.alters.result = record { there = c.loop-i-test.true; is_key = c.key_at.ensures; full = c.full_at-full.ensures; alters = c.alters.ensures } in
     let e = looked in
-    ⊎_elim
-    (λ w. rw (w.2, w.3) (counted_more e c.loop-i.invariant w.0.taken w.1.taken))
-    (⊎_elim
-    (λ w. rw (w.2, w.3) (counted_less e c.loop-i.invariant w.0.taken w.1.left))
-    (λ w. rw (w.1, w.2) (counted_same e c.loop-i.invariant w.0.left)))
-    c.if-alters.branch
+    elim c.if-alters.branch [
+      | then-alters+then-full w ↦ rw (w.more-is, w.less-is) (counted_more e c.loop-i.invariant w.if-alters.true w.if-full.true)
+      | then-alters+else-full w ↦ rw (w.more-is, w.less-is) (counted_less e c.loop-i.invariant w.if-alters.true w.if-full.false)
+      | else-alters w ↦ rw (w.more-is, w.less-is) (counted_same e c.loop-i.invariant w.if-alters.false)
+    ]
 
 pub returns-then-more-less : goal.returns-then-more-less
 returns-then-more-less c =

@@ -15,8 +15,11 @@ pub loop-i-preserved : goal.loop-i-preserved
 loop-i-preserved c =
     let k = get_or c.args.confirmed.now c.loop-i.i 0 in
     let h = c.loop-i-test.true in
-    elim c.if-full-i-ne0.branch [ then-full-i-ne0 w ↦ rw (w.6, w.7)
-    (writing_more c.loop-i.invariant w.3.last.0 w.3.result h (means_full w.0.taken) w.4.given (λ T f. insert_writes c.loop-i.cells c.loop-i.used k w.3.last.0 w.3.result w.3.ensures T (f refl))) | else-full-i-ne0 w ↦ rw (w.1, w.2) (writing_same c.loop-i.invariant h (means_free w.0.left)) ]
+    elim c.if-full-i-ne0.branch [
+      | then-full-i-ne0 w ↦ rw (w.cells-is, w.used-is)
+          (writing_more c.loop-i.invariant w.insert-used.new.t w.insert-used.result h (means_full w.if-full-i-ne0.true) w.cells-1.given (λ T f. insert_writes c.loop-i.cells c.loop-i.used k w.insert-used.new.t w.insert-used.result w.insert-used.ensures T (f refl)))
+      | else-full-i-ne0 w ↦ rw (w.cells-is, w.used-is) (writing_same c.loop-i.invariant h (means_free w.if-full-i-ne0.false))
+    ]
 
 pub shape_of-cells : goal.shape_of-cells
 shape_of-cells c = c.loop-i.invariant.same

@@ -14,8 +14,11 @@ pub loop-i-preserved : goal.loop-i-preserved
 loop-i-preserved c =
     let k = get_or c.args.confirmed.now c.loop-i.i 0 in
     let h = c.loop-i-test.true in
-    elim c.if-full-i-eq0.branch [ then-full-i-eq0 w ↦ rw (w.6, w.7)
-    (writing_more c.loop-i.invariant w.3.last.0 w.3.result h (means_free w.0.taken) w.4.given (λ T f. remove_writes c.loop-i.cells c.loop-i.used k w.3.last.0 w.3.result w.3.ensures T)) | else-full-i-eq0 w ↦ rw (w.1, w.2) (writing_same c.loop-i.invariant h (means_full w.0.left)) ]
+    elim c.if-full-i-eq0.branch [
+      | then-full-i-eq0 w ↦ rw (w.cells-is, w.used-is)
+          (writing_more c.loop-i.invariant w.remove-used.new.t w.remove-used.result h (means_free w.if-full-i-eq0.true) w.cells-1.given (λ T f. remove_writes c.loop-i.cells c.loop-i.used k w.remove-used.new.t w.remove-used.result w.remove-used.ensures T))
+      | else-full-i-eq0 w ↦ rw (w.cells-is, w.used-is) (writing_same c.loop-i.invariant h (means_full w.if-full-i-eq0.false))
+    ]
 
 pub shape_of-cells : goal.shape_of-cells
 shape_of-cells c = c.loop-i.invariant.same

@@ -13,6 +13,7 @@ use Rattle.grid.proofs.CallLaws.{accepted, early_refused, late_refused}
 use Rattle.grid.proofs.RefuseLaws.{Passed, change_passed, long_enough}
 use Rattle.grid.proofs.change.change_cells.Goals as goal
 
+-- `change::change_cells`: what the input alone refuses, then the cells' number, then the batch. Assumes nothing.
 pub returns-then-number-ne0 : goal.returns-then-number-ne0
 returns-then-number-ne0 c =
     let lent : Lent = let a = c.args in lent_of a.cells.now a.confirmed.now a.full.now a.corners.now a.altered.now in

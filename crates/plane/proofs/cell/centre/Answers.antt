@@ -1,6 +1,5 @@
 use Rattle.ieee.specs.Yard.{centre_f}
 use Rattle.model.specs.Plane.{centre}
-use borrow.Author.Rules.{rules}
 use lib.Ieee.{of_bits}
 use mathlib.Core.Path.{refl}
 use Rattle.plane.proofs.cell.centre.Goals as goal

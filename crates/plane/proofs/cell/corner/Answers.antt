@@ -1,6 +1,5 @@
 use Prim.Native.Nat.{◌/◌, ◌%◌}
 use Rattle.model.specs.Plane.{low_corner}
-use borrow.Author.Rules.{rules}
 use mathlib.Core.Path.{refl}
 use Rattle.ieee.proofs.Unbiased.{column_next}
 use Rattle.plane.proofs.cell.corner.Goals as goal

@@ -1,4 +1,3 @@
-use borrow.Author.Rules.{rules}
 use lib.Ieee.{binary64, mul}
 use mathlib.Core.Path.{ap}
 use Rattle.plane.proofs.cell.edge.Goals as goal

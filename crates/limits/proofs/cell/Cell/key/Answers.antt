@@ -9,6 +9,7 @@ use Rattle.ieee.proofs.Bias.{biased_lt}
 use Rattle.model.specs.Cell.{key}
 use Rattle.limits.proofs.cell.Cell.key.Goals as goal
 
+-- `Cell::key` is the model's key. Assumes nothing.
 pub overflow_mul-result : goal.overflow_mul-result
 overflow_mul-result c =
     let x-is : c.bias.result ≡ biased c.args.self.x = c.bias.ensures ∙ ap biased (to_z-of_z w64 c.args.self.x (record { sfits = c.struct_told-1.given.0.1 })) in

@@ -1,6 +1,5 @@
 use Rattle.ieee.specs.Root.{root_f}
 use Rattle.model.specs.Plane.{norm}
-use borrow.Author.Rules.{rules}
 use lib.Ieee.{Float}
 use mathlib.Core.Path.{ap, ◌∙◌}
 use Rattle.plane.proofs.point.Vector.norm.Goals as goal
