@@ -1,5 +1,5 @@
 -- A cell outside the spans is far: every step of the near test is monotone, and so holds beyond a bound where it holds at it. Assumes nothing.
-use Rattle.std.proofs.Common.{◌≡◌, ℕ, ◌+◌, ◌-◌, ◌^◌, ◌≤◌, Bool, true, false, cond, ◌⊎◌, ℤ, pos, negsuc, refl, ap, ◌∙◌, subst, inl, inr, arith, le-leb}
+use Rattle.std.proofs.Common.{◌≡◌, ℕ, ◌+◌, ◌^◌, ◌≤◌, Bool, true, false, cond, ◌⊎◌, ℤ, pos, negsuc, refl, ap, ◌∙◌, subst, inl, inr, arith, le-leb}
 use lib.Signed.{le_z}
 use lib.Ieee.{Float, binary64, add, sub, mul, neg, lt, le, eq, of_int, is_nan}
 use lib.Ieee.Fits.{mul-fits}

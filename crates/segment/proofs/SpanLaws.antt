@@ -1,5 +1,5 @@
 -- The spans leave out no cell that is near, so the prepared test answers as the model's does. Assumes nothing.
-use Rattle.std.proofs.Common.{◌≡◌, ℕ, ◌+◌, ◌-◌, ◌/◌, ◌%◌, ◌^◌, ◌<◌, ◌≤◌, Bool, true, false, ◌&&◌, ltb, leb, ℤ, pos, ◌+ℤ◌, sym, refl, ap, ◌∙◌, le_of_lt, arith, ltb-false, ltb-true, lt-ltb, le-leb, leb-false}
+use Rattle.std.proofs.Common.{◌≡◌, ℕ, ◌+◌, ◌-◌, ◌%◌, ◌^◌, ◌<◌, ◌≤◌, Bool, true, false, ◌&&◌, ltb, leb, pos, ◌+ℤ◌, sym, refl, ap, ◌∙◌, le_of_lt, arith, ltb-false, ltb-true, lt-ltb, le-leb, leb-false}
 use borrow.Author.Tests.{lt-leb}
 use lib.Bits.{bit_or, bit_and, or_add_and, and_le_l, and_le_r, or_lt}
 use lib.Ieee.{Float, binary64, mul, le, lt}

@@ -41,4 +41,4 @@ returns c =
     let room = long_enough (length a.out.now) need_cells (last) (rest_long a.map a.cells.now (rest) [] (passes)) in
     let space = long_enough (length a.statuses.now) need_cells [] room.1 in
     listing_done _ c.refuse-number.result (Lent a.map a.cells.now) _ _ (due) c.if-number-ne0.false refl
-    (corners_written a.map a.cells.now a.out.now c.corner_cells-found.new.1.0 room.0 a.statuses.now c.corner_cells-found.new.1.1.0 space.0 c.corner_cells-found.result c.corner_cells-found.ensures.0)
+    (corners_written a.map a.cells.now a.out.now c.corner_cells-found.new.out room.0 a.statuses.now c.corner_cells-found.new.statuses space.0 c.corner_cells-found.result c.corner_cells-found.ensures.0)

@@ -43,4 +43,4 @@ returns c =
     let a = c.args in
     let room = (long_enough (length a.out.now) need_cells [] (rest_long a.map a.cells.now (rest) [] (passes))).0 in
     listing_done _ c.refuse-number.result (Lent a.map a.cells.now) _ _ (due) c.if-number-ne0.false refl
-    (cells_written a.map a.cells.now a.out.now c.copy.new.1.0 room c.copy.ensures)
+    (cells_written a.map a.cells.now a.out.now c.copy.new.to room c.copy.ensures)

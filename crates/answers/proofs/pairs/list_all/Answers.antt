@@ -25,8 +25,8 @@ pub loop-i-preserved : goal.loop-i-preserved
 loop-i-preserved c =
     let l = c.loop-i in
     let a = c.args in
-    let k = c.list_row-n.auto.1.1.1 in
-    all_row a.points.now a.pairs.now a.lesser.now a.greater.now a.blocks.now l.lesser l.greater l.blocks l.n l.i l.invariant c.loop-i-test.true c.list_row-n.result _ _ _ k.0 k.1.0 k.1.1.0 c.list_row-n.ensures
+    let k = c.list_row-n.auto in
+    all_row a.points.now a.pairs.now a.lesser.now a.greater.now a.blocks.now l.lesser l.greater l.blocks l.n l.i l.invariant c.loop-i-test.true c.list_row-n.result _ _ _ k.lesser k.greater k.blocks c.list_row-n.ensures
 
 pub returns : goal.returns
 returns c =

@@ -1,5 +1,4 @@
 use Prim.Native.Nat.{◌-◌}
-use mathlib.Core.Logic.{⊎_elim}
 use lib.ListN.{length}
 use borrow.Author.Rules.{rules}
 use Rattle.answers.proofs.PairLaws.{OpenTo, counting_room, open_end, open_more, open_skip, open_start}
@@ -28,9 +27,12 @@ pub loop-i-preserved : goal.loop-i-preserved
 loop-i-preserved c =
     let l = c.loop-i in
     let a = c.args in
-    elim c.if-blockers-i-eq0.branch [ then-blockers-i-eq0 w ↦ let r = w.3 in
-    let k = r.kept.1.1.1.1 in
-    rw (w.8, w.9, w.10) (open_more a.points.now a.blockers.now a.pairs.now a.lesser.now a.greater.now l.lesser l.greater l.n l.i l.invariant c.loop-i-test.true r.result _ _ k.0 k.1.0 r.ensures) | else-blockers-i-eq0 w ↦ rw (w.1, w.2, w.3) (open_skip a.points.now a.blockers.now a.pairs.now a.lesser.now a.greater.now l.lesser l.greater l.n l.i l.invariant c.loop-i-test.true w.0.left) ]
+    elim c.if-blockers-i-eq0.branch [
+      | then-blockers-i-eq0 w ↦
+          let r = w.open_row-n in
+          rw (w.lesser-is, w.greater-is, w.n-is) (open_more a.points.now a.blockers.now a.pairs.now a.lesser.now a.greater.now l.lesser l.greater l.n l.i l.invariant c.loop-i-test.true r.result _ _ r.auto.lesser r.auto.greater r.ensures)
+      | else-blockers-i-eq0 w ↦ rw (w.lesser-is, w.greater-is, w.n-is) (open_skip a.points.now a.blockers.now a.pairs.now a.lesser.now a.greater.now l.lesser l.greater l.n l.i l.invariant c.loop-i-test.true w.if-blockers-i-eq0.false)
+    ]
 
 pub returns : goal.returns
 returns c =

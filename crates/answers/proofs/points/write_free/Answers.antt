@@ -1,5 +1,4 @@
 use Prim.Native.Nat.{◌-◌}
-use mathlib.Core.Logic.{⊎_elim}
 use lib.ListN.{length}
 use borrow.Author.Rules.{rules}
 use Rattle.answers.proofs.PointLaws.{FreeTo, free_all, free_none, free_pass, free_put}
@@ -13,7 +12,7 @@ pub loop-i-preserved : goal.loop-i-preserved
 loop-i-preserved c =
     let l = c.loop-i in
     let a = c.args in
-    elim c.if-blockers-i-eq0.branch [ then-blockers-i-eq0 w ↦ rw (w.2, w.3) (free_put a.points.now a.blockers.now a.out.now l.out l.n l.i l.invariant c.loop-i-test.true w.0.taken) | else-blockers-i-eq0 w ↦ rw (w.1, w.2) (free_pass a.points.now a.blockers.now a.out.now l.out l.n l.i l.invariant c.loop-i-test.true w.0.left) ]
+    elim c.if-blockers-i-eq0.branch [ then-blockers-i-eq0 w ↦ rw (w.out-is, w.n-is) (free_put a.points.now a.blockers.now a.out.now l.out l.n l.i l.invariant c.loop-i-test.true w.if-blockers-i-eq0.true) | else-blockers-i-eq0 w ↦ rw (w.out-is, w.n-is) (free_pass a.points.now a.blockers.now a.out.now l.out l.n l.i l.invariant c.loop-i-test.true w.if-blockers-i-eq0.false) ]
 
 pub returns : goal.returns
 returns c =

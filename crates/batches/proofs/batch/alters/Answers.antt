@@ -1,4 +1,3 @@
-use borrow.Author.Rules.{rules}
 use Rattle.model.specs.Maps.{has}
 use Rattle.batches.proofs.PickedLaws.{alters_full, alters_free}
 use Rattle.batches.proofs.batch.alters.Goals as goal

@@ -1,6 +1,5 @@
 use native.Mathlib.Omega.{arith}
 use mathlib.Core.Path.{◌∙◌}
-use borrow.Author.Rules.{rules}
 use Rattle.batches.proofs.WriteLaws.{commit_is, listed_lengths}
 use Rattle.batches.proofs.batch.commit.Goals as goal
 

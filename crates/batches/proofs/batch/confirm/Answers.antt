@@ -1,13 +1,11 @@
-use Prim.Native.Nat.{◌-◌, ◌/◌, ◌≤◌, zero-le}
+use Prim.Native.Nat.{◌/◌, ◌≤◌, zero-le}
 use native.Mathlib.Omega.{arith}
 use mathlib.Core.Path.{◌≡◌, refl}
-use mathlib.Core.Logic.{⊎_elim}
 use lib.ListN.{length}
-use borrow.Author.Rules.{rules}
 use Rattle.model.proofs.RunLaws.{batch_ascends}
 use Rattle.limits.specs.Batches.{entries}
 use Rattle.limits.proofs.EntryLaws.{entries_length}
-use Rattle.batches.proofs.ListingLaws.{Listing, Looked, listing_start, listing_more, listing_same, listing_end}
+use Rattle.batches.proofs.ListingLaws.{Looked, listing_start, listing_more, listing_same, listing_end}
 use Rattle.batches.proofs.batch.confirm.Goals as goal
 use Rattle.batches.proofs.batch.confirm.Goals.{else-alters, then-out-batch-via-else-out-batch+then-full-batch, then-alters, then-out-batch-via-then-out-batch}
 

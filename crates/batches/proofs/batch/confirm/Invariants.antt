@@ -1,14 +1,6 @@
-use Prim.Native.Nat.{◌-◌, ◌/◌, ◌≤◌, zero-le}
-use native.Mathlib.Omega.{arith}
-use mathlib.Core.Path.{◌≡◌, refl}
-use mathlib.Core.Logic.{⊎_elim}
+use Prim.Native.Nat.{◌-◌}
 use lib.ListN.{length}
-use borrow.Author.Rules.{rules}
-use borrow.Author.Tests.{ltb-true, ltb-false}
-use Rattle.model.proofs.RunLaws.{batch_ascends}
-use Rattle.limits.specs.Batches.{entries}
-use Rattle.limits.proofs.EntryLaws.{entries_length}
-use Rattle.batches.proofs.ListingLaws.{Listing, Looked, listing_start, listing_more, listing_same, listing_end}
+use Rattle.batches.proofs.ListingLaws.{Listing}
 use Rattle.batches.proofs.batch.confirm.Given as goal
 
 -- `batch::confirm`: what is listed, and the entries that are left. Assumes nothing.

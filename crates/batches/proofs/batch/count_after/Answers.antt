@@ -1,10 +1,7 @@
-use Prim.Native.Nat.{◌-◌}
 use native.Mathlib.Omega.{arith}
-use lib.ListN.{length}
-use borrow.Author.Rules.{rules}
 use Rattle.model.proofs.RunLaws.{batch_ascends}
 use Rattle.limits.specs.Batches.{entries}
-use Rattle.batches.proofs.ListingLaws.{Counted, Looked, counted_start, counted_more, counted_less, counted_same, counted_end}
+use Rattle.batches.proofs.ListingLaws.{Looked, counted_start, counted_more, counted_less, counted_same, counted_end}
 use Rattle.batches.proofs.batch.count_after.Goals as goal
 use Rattle.batches.proofs.batch.count_after.Goals.{then-alters+then-full, then-alters+else-full, else-alters}
 

@@ -1,7 +1,6 @@
 use Prim.Native.Nat.{◌+◌}
 use Rattle.limits.proofs.EntryLaws.{item}
 use Rattle.limits.proofs.SignedLaws.{not_zero}
-use borrow.Author.Rules.{rules}
 use Rattle.batches.proofs.batch.full_at.Goals as goal
 
 -- `batch::full_at`: any number but 0 says occupied. Assumes nothing.

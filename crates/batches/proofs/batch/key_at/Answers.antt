@@ -1,5 +1,4 @@
 use Prim.Native.Nat.{◌+◌}
-use borrow.Author.Rules.{rules}
 use Rattle.limits.proofs.EntryLaws.{item}
 use Rattle.limits.proofs.SignedLaws.{back}
 use Rattle.batches.proofs.batch.key_at.Goals as goal

@@ -1,10 +1,7 @@
-use Prim.Native.Nat.{◌-◌}
 use mathlib.Core.Path.{refl}
-use mathlib.Core.Logic.{⊎_elim}
 use mathlib.Core.Bool.{true}
-use lib.ListN.{length, get_or}
-use borrow.Author.Rules.{rules}
-use Rattle.batches.proofs.WriteLaws.{Writing, insert_writes, means_free, means_full, writing_start, writing_same, writing_more, writing_end}
+use lib.ListN.{get_or}
+use Rattle.batches.proofs.WriteLaws.{insert_writes, means_free, means_full, writing_start, writing_same, writing_more, writing_end}
 use Rattle.batches.proofs.batch.put_in.Goals as goal
 use Rattle.batches.proofs.batch.put_in.Goals.{else-full-i-ne0, then-full-i-ne0}
 

@@ -1,10 +1,7 @@
 use Prim.Native.Nat.{◌-◌}
-use mathlib.Core.Path.{refl}
-use mathlib.Core.Logic.{⊎_elim}
 use mathlib.Core.Bool.{true}
-use lib.ListN.{length, get_or}
-use borrow.Author.Rules.{rules}
-use Rattle.batches.proofs.WriteLaws.{Writing, insert_writes, means_free, means_full, writing_start, writing_same, writing_more, writing_end}
+use lib.ListN.{length}
+use Rattle.batches.proofs.WriteLaws.{Writing}
 use Rattle.batches.proofs.batch.put_in.Given as goal
 
 -- `batch::put_in`: what is written, and the listed changes that are left. Assumes nothing.

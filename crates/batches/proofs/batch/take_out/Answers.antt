@@ -1,9 +1,6 @@
-use Prim.Native.Nat.{◌-◌}
-use mathlib.Core.Logic.{⊎_elim}
 use mathlib.Core.Bool.{false}
-use lib.ListN.{length, get_or}
-use borrow.Author.Rules.{rules}
-use Rattle.batches.proofs.WriteLaws.{Writing, remove_writes, means_free, means_full, writing_start, writing_same, writing_more, writing_end}
+use lib.ListN.{get_or}
+use Rattle.batches.proofs.WriteLaws.{remove_writes, means_free, means_full, writing_start, writing_same, writing_more, writing_end}
 use Rattle.batches.proofs.batch.take_out.Goals as goal
 use Rattle.batches.proofs.batch.take_out.Goals.{else-full-i-eq0, then-full-i-eq0}
 

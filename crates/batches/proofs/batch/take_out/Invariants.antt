@@ -1,9 +1,7 @@
 use Prim.Native.Nat.{◌-◌}
-use mathlib.Core.Logic.{⊎_elim}
 use mathlib.Core.Bool.{false}
-use lib.ListN.{length, get_or}
-use borrow.Author.Rules.{rules}
-use Rattle.batches.proofs.WriteLaws.{Writing, remove_writes, means_free, means_full, writing_start, writing_same, writing_more, writing_end}
+use lib.ListN.{length}
+use Rattle.batches.proofs.WriteLaws.{Writing}
 use Rattle.batches.proofs.batch.take_out.Given as goal
 
 -- `batch::take_out`: what is written, and the listed changes that are left. Assumes nothing.

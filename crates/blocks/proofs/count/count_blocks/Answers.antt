@@ -1,6 +1,6 @@
 use native.Mathlib.Omega.{arith}
 use mathlib.Core.Path.{refl, sym}
-use Rattle.blocks.proofs.CountLaws.{Counting, counting_done, counting_more, counting_none}
+use Rattle.blocks.proofs.CountLaws.{counting_done, counting_more, counting_none}
 use Rattle.blocks.proofs.count.count_blocks.Goals as goal
 
 pub returns-then-n-gt-CELLS : goal.returns-then-n-gt-CELLS
@@ -18,7 +18,7 @@ plant-joined-requires c =
 
 pub loop-i-preserved : goal.loop-i-preserved
 loop-i-preserved c =
-    counting_more c.loop-i.invariant c.loop-i-test.true c.plant-joined.auto.1.0 c.plant-joined.ensures
+    counting_more c.loop-i.invariant c.loop-i-test.true c.plant-joined.auto.parents c.plant-joined.ensures
 
 pub returns-then-n-joined : goal.returns-then-n-joined
 returns-then-n-joined c =

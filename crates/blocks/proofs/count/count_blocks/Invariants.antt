@@ -1,6 +1,4 @@
-use native.Mathlib.Omega.{arith}
-use mathlib.Core.Path.{refl, sym}
-use Rattle.blocks.proofs.CountLaws.{Counting, counting_done, counting_more, counting_none}
+use Rattle.blocks.proofs.CountLaws.{Counting}
 use Rattle.blocks.proofs.count.count_blocks.Given as goal
 
 -- `count::count_blocks`: the cells are planted from the last to the first. Assumes nothing.

@@ -2,7 +2,6 @@ use Prim.Native.Nat.{◌+◌}
 use native.Mathlib.Omega.{arith}
 use mathlib.Core.Path.{refl}
 use lib.ListN.{get_or}
-use borrow.Author.Rules.{rules}
 use Rattle.blocks.proofs.MetLaws.{above_at, above_last, above_touches, met_none, met_sought}
 use Rattle.blocks.proofs.count.join_above.Goals as goal
 
@@ -12,7 +11,7 @@ returns-then-k-eq-LAST_ROW c =
     met_none c.requires.0 c.requires.1 refl refl (λ a l h b t u. above_last (get_or c.args.cells.now c.args.i 0) c.if-k-eq-LAST_ROW.true u)
 
 pub overflow_add-k : goal.overflow_add-k
-overflow_add-k c = omega (arith, c.shared_slice_known-2-1.given c.args.i)
+overflow_add-k c = omega (arith, c.type_inv.cells c.args.i)
 
 pub returns : goal.returns
 returns c =

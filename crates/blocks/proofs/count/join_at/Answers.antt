@@ -1,6 +1,5 @@
 use native.Mathlib.Omega.{arith}
 use mathlib.Core.Path.{sym, ◌∙◌}
-use borrow.Author.Rules.{rules}
 use Rattle.table.proofs.LookLaws.{stands_inside}
 use Rattle.blocks.proofs.MetLaws.{sought_found, sought_missed}
 use Rattle.blocks.proofs.count.join_at.Goals as goal

@@ -2,7 +2,6 @@ use Prim.Native.Nat.{◌+◌}
 use native.Mathlib.Omega.{arith}
 use mathlib.Core.Path.{refl}
 use lib.ListN.{get_or}
-use borrow.Author.Rules.{rules}
 use Rattle.model.specs.Cell.{W}
 use Rattle.blocks.proofs.MetLaws.{met_none, met_sought, right_at, right_touches}
 use Rattle.blocks.proofs.count.join_right.Goals as goal
@@ -10,7 +9,7 @@ use Rattle.blocks.proofs.count.join_right.Goals as goal
 -- `count::join_right`: the cell to the right is looked for after place i. Assumes nothing.
 pub returns-then-k-ge-LAST_COLUMN : goal.returns-then-k-ge-LAST_COLUMN
 returns-then-k-ge-LAST_COLUMN c =
-    met_none c.requires.0 c.requires.1 refl refl (λ a l h b t u. omega (arith, c.if-k-ge-LAST_COLUMN.true, c.shared_slice_known-2-1.given l))
+    met_none c.requires.0 c.requires.1 refl refl (λ a l h b t u. omega (arith, c.if-k-ge-LAST_COLUMN.true, c.type_inv.cells l))
 
 pub returns : goal.returns
 returns c =

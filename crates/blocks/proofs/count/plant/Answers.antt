@@ -3,7 +3,6 @@ use native.Mathlib.Omega.{arith}
 use mathlib.Core.Path.{◌≡◌, ◌∙◌}
 use lib.ListN.{length, length-set}
 use lib.Seq.{get_or-set_same}
-use borrow.Author.Rules.{rules}
 use Rattle.blocks.proofs.ForestLaws.{down_set}
 use Rattle.blocks.proofs.MetLaws.{planted}
 use Rattle.blocks.proofs.count.plant.Goals as goal
@@ -18,12 +17,12 @@ join_above-above-requires c =
 pub join_right-requires : goal.join_right-requires
 join_right-requires c =
     let m = c.join_above-above in
-    let e : length m.new.1.0 ≡ length c.args.parents.now = m.auto.1.0 ∙ length-set c.args.parents.now c.args.i c.args.i in
+    let e : length m.new.parents ≡ length c.args.parents.now = m.auto.parents ∙ length-set c.args.parents.now c.args.i c.args.i in
     (m.ensures.down, m.ensures.fixed, rw e c.requires.1, c.requires.2)
 
 pub shape_of-parents : goal.shape_of-parents
 shape_of-parents c =
-    c.join_right.auto.1.0 ∙ c.join_above-above.auto.1.0 ∙ length-set c.args.parents.now c.args.i c.args.i
+    c.join_right.auto.parents ∙ c.join_above-above.auto.parents ∙ length-set c.args.parents.now c.args.i c.args.i
 
 pub returns : goal.returns
 returns c =

@@ -1,6 +1,6 @@
 use native.Mathlib.Omega.{arith}
 use lib.ListN.{length-set}
-use Rattle.blocks.proofs.ForestLaws.{Climbing, climb_none, climb_more, climb_done}
+use Rattle.blocks.proofs.ForestLaws.{climb_none, climb_more, climb_done}
 use Rattle.blocks.proofs.forest.root_of.Goals as goal
 
 pub loop-up-init : goal.loop-up-init

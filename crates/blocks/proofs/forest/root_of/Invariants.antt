@@ -1,6 +1,4 @@
-use native.Mathlib.Omega.{arith}
-use lib.ListN.{length-set}
-use Rattle.blocks.proofs.ForestLaws.{Climbing, climb_none, climb_more, climb_done}
+use Rattle.blocks.proofs.ForestLaws.{Climbing}
 use Rattle.blocks.proofs.forest.root_of.Given as goal
 
 -- `forest::root_of`: the way from i ends where that from `at` did. Assumes nothing.

@@ -1,10 +1,7 @@
-use Prim.Native.Nat.{◌-◌, zero-le}
+use Prim.Native.Nat.{zero-le}
 use native.Mathlib.Omega.{arith}
 use mathlib.Core.Path.{refl}
-use mathlib.Core.Logic.{⊎_elim}
-use lib.ListN.{length}
-use borrow.Author.Rules.{rules}
-use Rattle.corner.proofs.CellsLaws.{CornersTo, corners_all, corners_none, corners_pass, corners_put}
+use Rattle.corner.proofs.CellsLaws.{corners_all, corners_none, corners_pass, corners_put}
 use Rattle.corner.proofs.cells.corner_cells.Goals as goal
 use Rattle.corner.proofs.cells.corner_cells.Goals.{else-s-ne0, then-s-ne0}
 

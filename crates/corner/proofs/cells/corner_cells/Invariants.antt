@@ -1,10 +1,6 @@
-use Prim.Native.Nat.{◌-◌, zero-le}
-use native.Mathlib.Omega.{arith}
-use mathlib.Core.Path.{refl}
-use mathlib.Core.Logic.{⊎_elim}
+use Prim.Native.Nat.{◌-◌}
 use lib.ListN.{length}
-use borrow.Author.Rules.{rules}
-use Rattle.corner.proofs.CellsLaws.{CornersTo, corners_all, corners_none, corners_pass, corners_put}
+use Rattle.corner.proofs.CellsLaws.{CornersTo}
 use Rattle.corner.proofs.cells.corner_cells.Given as goal
 
 -- `cells::corner_cells`: one cell after another, written where its status is not 0. Assumes nothing.

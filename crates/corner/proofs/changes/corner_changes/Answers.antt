@@ -1,8 +1,7 @@
-use Prim.Native.Nat.{◌-◌, zero-le}
+use Prim.Native.Nat.{zero-le}
 use native.Mathlib.Omega.{arith}
 use mathlib.Core.Path.{refl}
-use lib.ListN.{length}
-use Rattle.corner.proofs.ChangeLaws.{Sofar, sofar_none, sofar_next, sofar_all}
+use Rattle.corner.proofs.ChangeLaws.{sofar_none, sofar_next, sofar_all}
 use Rattle.corner.proofs.changes.corner_changes.Goals as goal
 
 pub returns-then-out-room : goal.returns-then-out-room

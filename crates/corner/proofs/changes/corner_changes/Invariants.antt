@@ -1,8 +1,6 @@
-use Prim.Native.Nat.{◌-◌, zero-le}
-use native.Mathlib.Omega.{arith}
-use mathlib.Core.Path.{refl}
+use Prim.Native.Nat.{◌-◌}
 use lib.ListN.{length}
-use Rattle.corner.proofs.ChangeLaws.{Sofar, sofar_none, sofar_next, sofar_all}
+use Rattle.corner.proofs.ChangeLaws.{Sofar}
 use Rattle.corner.proofs.changes.corner_changes.Given as goal
 
 -- `changes::corner_changes`: what each confirmed cell adds, one after another. Assumes nothing.

@@ -5,7 +5,6 @@ use lib.Bits.{xor_lt}
 use lib.ListN.{get_or}
 use Rattle.model.specs.Cell.{W}
 use Rattle.corner.proofs.ChangeLaws.{given_inner, words_fresh}
-use borrow.Author.Rules.{rules}
 use Rattle.corner.proofs.changes.put_around.Goals as goal
 
 -- `changes::put_around`: the words of the window say what the cell adds. Assumes nothing.

@@ -1,9 +1,7 @@
-use Prim.Native.Nat.{◌-◌}
 use native.Mathlib.Omega.{arith}
 use mathlib.Core.Path.{◌≡◌}
-use mathlib.Core.Logic.{⊎_elim}
 use Rattle.corner.specs.Window.{inner_cell, picked_at}
-use Rattle.corner.proofs.AddedLaws.{Gathering, gathering_none, gathering_pass, gathering_put, picked_none, picked_some}
+use Rattle.corner.proofs.AddedLaws.{gathering_none, gathering_pass, gathering_put, picked_none, picked_some}
 use Rattle.corner.proofs.changes.put_nine.Goals as goal
 use Rattle.corner.proofs.changes.put_nine.Goals.{else-bit-eq1, then-bit-eq1}
 

@@ -1,9 +1,6 @@
 use Prim.Native.Nat.{◌-◌}
-use native.Mathlib.Omega.{arith}
-use mathlib.Core.Path.{◌≡◌}
-use mathlib.Core.Logic.{⊎_elim}
-use Rattle.corner.specs.Window.{inner_cell, picked_at}
-use Rattle.corner.proofs.AddedLaws.{Gathering, gathering_none, gathering_pass, gathering_put, picked_none, picked_some}
+use Rattle.corner.specs.Window.{picked_at}
+use Rattle.corner.proofs.AddedLaws.{Gathering}
 use Rattle.corner.proofs.changes.put_nine.Given as goal
 
 -- `changes::put_nine`: the nine one after another, each written where its bit is set. Assumes nothing.

@@ -1,6 +1,5 @@
 use mathlib.Core.Path.{sym, ◌∙◌}
 use Rattle.corner.proofs.CornersLaws.{status_sum, status_none}
-use borrow.Author.Rules.{rules}
 use Rattle.corner.proofs.status.status_of.Goals as goal
 
 -- `status::status_of`: the four corners of an occupied cell, each where its three neighbours are free. Assumes nothing.

@@ -1,7 +1,6 @@
 use Prim.Native.Nat.{◌*◌, ◌/◌, ◌^◌, ◌<◌}
 use native.Mathlib.Omega.{arith}
 use mathlib.Core.Path.{refl}
-use borrow.Author.Rules.{rules}
 use lib.Bits.{bit_or, or_lt}
 use Rattle.corner.specs.Window.{beside}
 use Rattle.corner.proofs.window.beside.Goals as goal

@@ -1,5 +1,4 @@
 use mathlib.Core.Path.{refl}
-use borrow.Author.Rules.{rules}
 use Rattle.corner.specs.Window.{southwests, southeasts, northwests, northeasts}
 use Rattle.corner.proofs.window.corners_of.Goals as goal
 

@@ -1,9 +1,6 @@
-use Prim.Native.Nat.{◌-◌}
 use native.Mathlib.Omega.{arith}
 use mathlib.Core.Path.{sym, ◌∙◌}
-use mathlib.Core.Logic.{⊎_elim}
-use borrow.Author.Rules.{rules}
-use Rattle.corner.proofs.RowLaws.{Row, row_none, row_hit, row_miss}
+use Rattle.corner.proofs.RowLaws.{row_none, row_hit, row_miss}
 use Rattle.corner.proofs.window.five.Goals as goal
 use Rattle.corner.proofs.window.five.Goals.{else-stands_at, then-stands_at}
 

@@ -1,9 +1,5 @@
 use Prim.Native.Nat.{◌-◌}
-use native.Mathlib.Omega.{arith}
-use mathlib.Core.Path.{sym, ◌∙◌}
-use mathlib.Core.Logic.{⊎_elim}
-use borrow.Author.Rules.{rules}
-use Rattle.corner.proofs.RowLaws.{Row, row_none, row_hit, row_miss}
+use Rattle.corner.proofs.RowLaws.{Row}
 use Rattle.corner.proofs.window.five.Given as goal
 
 -- `window::five`: the place of each key follows from the place of the one before it. Assumes nothing.

@@ -1,4 +1,3 @@
-use borrow.Author.Rules.{rules}
 use Rattle.corner.specs.Window.{status_at}
 use Rattle.corner.proofs.WordLaws.{digit_read}
 use Rattle.corner.proofs.window.status_at.Goals as goal

@@ -1,5 +1,4 @@
 use native.Mathlib.Omega.{arith}
-use borrow.Author.Rules.{rules}
 use Rattle.corner.proofs.WindowLaws.{sees_none, window_sees}
 use Rattle.corner.proofs.window.window.Goals as goal
 

@@ -4,7 +4,6 @@ use lib.Seq.{length-take-le}
 use Rattle.limits.specs.Batches.{entries}
 use Rattle.model.specs.Limits.{max_cells}
 use Rattle.grid.proofs.ApplyLaws.{applied}
-use borrow.Author.Rules.{rules}
 use Rattle.grid.proofs.change.apply.Goals as goal
 
 -- `change::apply`: the confirmed changes, the corner changes, and then the cells. Assumes nothing.

@@ -5,7 +5,6 @@ use mathlib.Core.Bool.{Bool}
 use lib.Dec.{ltb}
 use lib.ListN.{length}
 use lib.Seq.{length-take-le}
-use borrow.Author.Rules.{rules}
 use borrow.Author.Tests.{ltb-false}
 use Rattle.model.specs.Limits.{max_cells, need_confirmed, need_corners}
 use Rattle.grid.specs.Change.{Lent, lent_of, refuse_change, refuse_input, short_for}

@@ -1,6 +1,5 @@
 use Prim.Native.Nat.{ℕ}
 use Rattle.model.specs.Maps.{has}
-use borrow.Author.Rules.{rules}
 use mathlib.Core.Path.{ap, ◌∙◌}
 use Rattle.limits.proofs.cell.is_occupied.Goals as goal
 

@@ -1,4 +1,3 @@
-use borrow.Author.Rules.{rules}
 use mathlib.Core.Path.{sym, ap}
 use lib.Bits.{bit_or, or_zero_r}
 use Rattle.limits.proofs.WordLaws.{bit_fits}

@@ -1,4 +1,3 @@
-use borrow.Author.Rules.{rules}
 use Rattle.limits.proofs.WordLaws.{none_first}
 use Rattle.limits.proofs.due.first_due.Goals as goal
 

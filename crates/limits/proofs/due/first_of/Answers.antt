@@ -1,12 +1,8 @@
-use Prim.Native.Nat.{◌-◌, ◌≤◌}
 use native.Mathlib.Omega.{arith}
-use mathlib.Core.Path.{◌≡◌, refl, sym, ◌∙◌}
+use mathlib.Core.Path.{refl, sym, ◌∙◌}
 use mathlib.Core.Bool.{true, false}
-use lib.ListN.{drop, length}
 use borrow.Author.Rules.{rules}
 use borrow.Author.Tests.{eq-eqb, ne_eqb}
-use Rattle.model.specs.Refusal.{order}
-use Rattle.limits.specs.Words.{first_on}
 use Rattle.limits.proofs.WordLaws.{order_end, order_next, order_small}
 use Rattle.limits.proofs.due.first_of.Goals as goal
 

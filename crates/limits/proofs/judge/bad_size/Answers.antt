@@ -1,5 +1,4 @@
 use mathlib.Core.Path.{sym}
-use mathlib.Core.Logic.{⊎_elim}
 use lib.Ieee.{of_bits, odd}
 use Rattle.limits.proofs.SizeLaws.{size_good, size_small, size_large}
 use Rattle.limits.proofs.judge.bad_size.Goals as goal

@@ -1,4 +1,3 @@
-use borrow.Author.Rules.{rules}
 use Rattle.limits.proofs.EntryLaws.{looked_long, looked_short}
 use Rattle.limits.proofs.judge.batch_due.Goals as goal
 

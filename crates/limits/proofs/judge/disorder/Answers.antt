@@ -1,6 +1,5 @@
 use native.Mathlib.Omega.{arith}
 use mathlib.Core.Path.{refl}
-use borrow.Author.Rules.{rules}
 use Rattle.limits.proofs.EntryLaws.{ragged_is, whole_is}
 use Rattle.limits.proofs.judge.disorder.Goals as goal
 

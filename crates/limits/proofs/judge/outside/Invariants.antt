@@ -1,14 +1,8 @@
-use Prim.Native.Nat.{◌+◌, ◌-◌, ◌≤◌}
-use native.Mathlib.Omega.{arith}
-use mathlib.Core.Path.{◌≡◌, refl, sym, ap, ◌∙◌}
-use mathlib.Core.Bool.{◌||◌}
+use Prim.Native.Nat.{◌-◌, ◌≤◌}
+use mathlib.Core.Path.{◌≡◌}
 use lib.ListN.{length, drop}
-use borrow.Author.Rules.{rules}
-use Rattle.model.specs.Limits.{max_coordinate}
-use Rattle.model.specs.Refusal.{off_map, outside}
+use Rattle.model.specs.Refusal.{outside}
 use Rattle.limits.specs.Batches.{entries}
-use Rattle.limits.proofs.EntryLaws.{item, outside_next, outside_end}
-use Rattle.limits.proofs.SignedLaws.{back}
 use Rattle.limits.proofs.judge.outside.Given as goal
 
 -- `judge::outside`: what is said of the whole is said of the entries from i on. Assumes nothing.

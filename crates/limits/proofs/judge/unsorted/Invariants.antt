@@ -1,13 +1,8 @@
-use Prim.Native.Nat.{◌+◌, ◌-◌, ◌≤◌}
-use native.Mathlib.Omega.{arith}
-use mathlib.Core.Path.{◌≡◌, refl, sym, ◌∙◌}
-use mathlib.Core.Bool.{not, ◌||◌}
+use Prim.Native.Nat.{◌-◌, ◌≤◌}
+use mathlib.Core.Path.{◌≡◌}
 use lib.ListN.{length, drop}
-use borrow.Author.Rules.{rules}
 use Rattle.model.specs.Refusal.{unsorted}
 use Rattle.limits.specs.Batches.{entries}
-use Rattle.limits.proofs.EntryLaws.{item, unsorted_next, unsorted_end}
-use Rattle.limits.proofs.SignedLaws.{back}
 use Rattle.limits.proofs.judge.unsorted.Given as goal
 
 -- `judge::unsorted`: what is said of the whole is said of the entries from i on. Assumes nothing.

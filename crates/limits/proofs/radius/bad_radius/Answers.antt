@@ -1,6 +1,5 @@
 use native.Mathlib.Omega.{arith}
 use mathlib.Core.Path.{sym, ◌∙◌}
-use mathlib.Core.Logic.{⊎_elim}
 use lib.Ieee.{of_bits, odd}
 use mir.Syntax.{w64}
 use mir.Val.{SFits}

@@ -13,7 +13,7 @@ loop-i-preserved c =
     let r = c.put_corners-used in
     let l = c.loop-i in
     let a = c.args in
-    gathered_more a.candidates.now l.candidates a.corners.now a.altered.now a.n l.used l.i a.shift l.invariant c.loop-i-test.true (leb-true l.used max_candidates c.if-used-le-CANDIDATES.true) r.new.0 r.result r.auto.0 r.ensures
+    gathered_more a.candidates.now l.candidates a.corners.now a.altered.now a.n l.used l.i a.shift l.invariant c.loop-i-test.true c.if-used-le-CANDIDATES.true r.new.candidates r.result r.auto.candidates r.ensures
 
 pub shape_of-candidates-else-used-le-CANDIDATES : goal.shape_of-candidates-else-used-le-CANDIDATES
 shape_of-candidates-else-used-le-CANDIDATES c = c.loop-i.invariant.long
@@ -22,7 +22,7 @@ pub returns-else-used-le-CANDIDATES : goal.returns-else-used-le-CANDIDATES
 returns-else-used-le-CANDIDATES c =
     let l = c.loop-i in
     let a = c.args in
-    gathered_done a.candidates.now l.candidates a.corners.now a.altered.now a.n l.used l.i a.shift l.invariant (λ h. absurd (omega (arith, leb-false l.used max_candidates c.if-used-le-CANDIDATES.false)))
+    gathered_done a.candidates.now l.candidates a.corners.now a.altered.now a.n l.used l.i a.shift l.invariant (λ h. absurd (omega (arith, c.if-used-le-CANDIDATES.false)))
 
 pub shape_of-candidates-after-loop-i : goal.shape_of-candidates-after-loop-i
 shape_of-candidates-after-loop-i c = c.loop-i.invariant.long

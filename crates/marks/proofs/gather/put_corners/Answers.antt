@@ -18,8 +18,11 @@ loop-d-preserved c =
     let a = c.args in
     let more = c.loop-d-test.true in
     let seen : (b : Bits) → a.status ≡ number b → c.get.result ≡ bit (dir_at l.d) b = λ b e. c.get.ensures b e ∙ ap (λ (d : Dir). bit d b) c.corner_at.ensures in
-    elim c.if-get.branch [ then-get w ↦ rw (w.6, w.7)
-    (put_more a.candidates.now l.candidates a.n l.used l.d a.k a.status a.shift more l.invariant c.get.result seen w.0.taken w.2.result w.2.ensures w.3.last.0 w.3.result w.3.kept.0 w.3.ensures) | else-get w ↦ rw (w.1, w.2) (put_pass a.candidates.now l.candidates a.n l.used l.d a.k a.status a.shift more l.invariant c.get.result seen w.0.left) ]
+    elim c.if-get.branch [
+      | then-get w ↦ rw (w.candidates-is, w.used-is)
+          (put_more a.candidates.now l.candidates a.n l.used l.d a.k a.status a.shift more l.invariant c.get.result seen w.if-get.true w.shifted.result w.shifted.ensures w.insert-used.new.t w.insert-used.result w.insert-used.auto.t w.insert-used.ensures)
+      | else-get w ↦ rw (w.candidates-is, w.used-is) (put_pass a.candidates.now l.candidates a.n l.used l.d a.k a.status a.shift more l.invariant c.get.result seen w.if-get.false)
+    ]
 
 pub shape_of-candidates : goal.shape_of-candidates
 shape_of-candidates c = c.loop-d.invariant.long

@@ -1,5 +1,5 @@
-use Rattle.std.proofs.Common.{◌-◌, length, ⊎_elim, arith}
-use Rattle.marks.proofs.EndingLaws.{Counted, counted_none, counted_more, counted_pass, counted_done}
+use Rattle.std.proofs.Common.{◌-◌, length}
+use Rattle.marks.proofs.EndingLaws.{Counted}
 use Rattle.marks.proofs.points.count.Given as goal
 
 -- `points::count`: word by word. Assumes nothing.

@@ -1,5 +1,5 @@
-use Rattle.std.proofs.Common.{◌-◌, ◌<◌, length, inl, inr, ⊎_elim, arith, ltb-false, ltb-true}
-use Rattle.marks.proofs.EndingLaws.{Picked, picked_none, picked_more, picked_pass, picked_full, picked_done}
+use Rattle.std.proofs.Common.{◌-◌, length}
+use Rattle.marks.proofs.EndingLaws.{Picked}
 use Rattle.marks.proofs.points.pick.Given as goal
 
 -- `points::pick`: key by key. Assumes nothing.

@@ -1,6 +1,6 @@
-use Rattle.std.proofs.Common.{◌-◌, length, get_or, arith}
+use Rattle.std.proofs.Common.{get_or, arith}
 use Rattle.marks.specs.Standing.{begun}
-use Rattle.marks.proofs.BeginLaws.{Begun, begun_none, begun_more, begun_done}
+use Rattle.marks.proofs.BeginLaws.{begun_none, begun_more, begun_done}
 use Rattle.marks.proofs.run.begin.Goals as goal
 
 pub loop-i-init : goal.loop-i-init

@@ -1,6 +1,5 @@
-use Rattle.std.proofs.Common.{◌-◌, length, get_or, arith}
-use Rattle.marks.specs.Standing.{begun}
-use Rattle.marks.proofs.BeginLaws.{Begun, begun_none, begun_more, begun_done}
+use Rattle.std.proofs.Common.{◌-◌, length}
+use Rattle.marks.proofs.BeginLaws.{Begun}
 use Rattle.marks.proofs.run.begin.Given as goal
 
 -- `run::begin`: key by key. Assumes nothing.

@@ -1,4 +1,4 @@
-use Rattle.std.proofs.Common.{◌<◌, length, sym, refl, ◌∙◌, arith, rules}
+use Rattle.std.proofs.Common.{◌<◌, length, sym, refl, ◌∙◌, arith}
 use Rattle.table.proofs.LookLaws.{stands_inside}
 use Rattle.marks.proofs.BeginLaws.{begun_there, begun_absent}
 use Rattle.marks.proofs.run.begin_at.Goals as goal

@@ -1,4 +1,4 @@
-use Rattle.std.proofs.Common.{◌≡◌, ℕ, ◌<◌, true, List, length, get_or, sym, refl, ap, ◌∙◌, arith, length-set, rules}
+use Rattle.std.proofs.Common.{◌≡◌, ℕ, ◌<◌, true, List, length, get_or, sym, refl, ap, ◌∙◌, arith, length-set}
 use Rattle.corner.specs.Weights.{dir}
 use Rattle.table.specs.Tables.{stands}
 use Rattle.table.proofs.LookLaws.{stands_inside}

@@ -1,5 +1,4 @@
-use Rattle.std.proofs.Common.{◌-◌, length, arith}
-use Rattle.marks.proofs.RunLaws.{Made, made_none, made_more, made_done}
+use Rattle.marks.proofs.RunLaws.{made_none, made_more, made_done}
 use Rattle.marks.proofs.run.mark_all.Goals as goal
 
 pub loop-i-init : goal.loop-i-init
@@ -12,7 +11,7 @@ loop-i-preserved c =
     let r = c.mark_corners in
     let l = c.loop-i in
     let a = c.args in
-    made_more a.candidates.now a.moods.now l.moods a.corners.now a.altered.now a.shift l.i l.invariant c.loop-i-test.true c.requires.3 r.new.1.0 r.auto.1.0 r.ensures.1
+    made_more a.candidates.now a.moods.now l.moods a.corners.now a.altered.now a.shift l.i l.invariant c.loop-i-test.true c.requires.3 r.new.moods r.auto.moods r.ensures.1
 
 pub shape_of-moods : goal.shape_of-moods
 shape_of-moods c = c.loop-i.invariant.long

@@ -1,5 +1,5 @@
-use Rattle.std.proofs.Common.{◌-◌, length, arith}
-use Rattle.marks.proofs.RunLaws.{Made, made_none, made_more, made_done}
+use Rattle.std.proofs.Common.{◌-◌, length}
+use Rattle.marks.proofs.RunLaws.{Made}
 use Rattle.marks.proofs.run.mark_all.Given as goal
 
 -- `run::mark_all`: cell by cell. Assumes nothing.

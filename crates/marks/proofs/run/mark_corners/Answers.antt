@@ -1,8 +1,8 @@
-use Rattle.std.proofs.Common.{◌-◌, ap, ◌∙◌, arith}
+use Rattle.std.proofs.Common.{ap, ◌∙◌}
 use Rattle.corner.specs.Weights.{dir}
 use Rattle.model.specs.Cell.{Dir}
 use Rattle.model.specs.Corner.{bit}
-use Rattle.marks.proofs.RunLaws.{Four, four_none, four_more, four_done}
+use Rattle.marks.proofs.RunLaws.{four_none, four_more, four_done}
 use Rattle.marks.proofs.run.mark_corners.Goals as goal
 
 pub loop-d-init : goal.loop-d-init
@@ -16,7 +16,7 @@ loop-d-preserved c =
     let l = c.loop-d in
     let a = c.args in
     four_more a.candidates.now a.moods.now l.moods a.k a.status a.shift a.n l.d l.invariant c.loop-d-test.true c.requires.2 (dir c.corner_at-corner.result) c.corner_at-corner.ensures c.shifted.result c.shifted.ensures c.get.result
-    (λ b e. c.get.ensures b e ∙ ap (λ (d : Dir). bit d b) c.corner_at-corner.ensures) r.new.1.0 r.auto.1.0 r.ensures.1
+    (λ b e. c.get.ensures b e ∙ ap (λ (d : Dir). bit d b) c.corner_at-corner.ensures) r.new.moods r.auto.moods r.ensures.1
 
 pub shape_of-moods : goal.shape_of-moods
 shape_of-moods c = c.loop-d.invariant.long

@@ -1,8 +1,5 @@
-use Rattle.std.proofs.Common.{◌-◌, ap, ◌∙◌, arith}
-use Rattle.corner.specs.Weights.{dir}
-use Rattle.model.specs.Cell.{Dir}
-use Rattle.model.specs.Corner.{bit}
-use Rattle.marks.proofs.RunLaws.{Four, four_none, four_more, four_done}
+use Rattle.std.proofs.Common.{◌-◌}
+use Rattle.marks.proofs.RunLaws.{Four}
 use Rattle.marks.proofs.run.mark_corners.Given as goal
 
 -- `run::mark_corners`: the four marks one after another. Assumes nothing.

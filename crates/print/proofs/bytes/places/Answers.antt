@@ -1,8 +1,4 @@
-use Prim.Native.Nat.{◌+◌}
 use native.Mathlib.Omega.{arith}
-use mathlib.Core.Path.{◌≡◌}
-use lib.ListN.{length}
-use Rattle.model.specs.Listing.{decimal}
 use Rattle.print.proofs.DecimalLaws.{length_most, length_more, length_one, length_some}
 use Rattle.print.proofs.bytes.places.Goals as goal
 

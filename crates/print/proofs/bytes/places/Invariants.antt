@@ -1,9 +1,7 @@
 use Prim.Native.Nat.{◌+◌}
-use native.Mathlib.Omega.{arith}
 use mathlib.Core.Path.{◌≡◌}
 use lib.ListN.{length}
 use Rattle.model.specs.Listing.{decimal}
-use Rattle.print.proofs.DecimalLaws.{length_most, length_more, length_one, length_some}
 use Rattle.print.proofs.bytes.places.Given as goal
 
 -- `bytes::places`: k digits, less one, and those of the rest are n's. Assumes nothing.

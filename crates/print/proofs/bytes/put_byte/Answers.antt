@@ -1,5 +1,3 @@
-use native.Mathlib.Omega.{arith}
-use borrow.Author.Rules.{rules}
 use Rattle.print.proofs.PutLaws.{put_one}
 use Rattle.print.proofs.bytes.put_byte.Goals as goal
 

@@ -1,10 +1,9 @@
 use native.Mathlib.Omega.{arith}
-use mathlib.Core.Path.{◌≡◌, ◌∙◌}
-use lib.ListN.{length, length-set}
+use mathlib.Core.Path.{◌≡◌}
+use lib.ListN.{length}
 use Rattle.model.specs.Listing.{decimal}
-use borrow.Author.Rules.{rules}
 use Rattle.print.proofs.DecimalLaws.{length_most, length_some}
-use Rattle.print.proofs.TextLaws.{Numbering, numbering_none, numbering_place, numbering_next, numbering_more, numbering_done}
+use Rattle.print.proofs.TextLaws.{numbering_none, numbering_place, numbering_next, numbering_more, numbering_done}
 use Rattle.print.proofs.bytes.put_number.Goals as goal
 
 pub overflow_sub-i : goal.overflow_sub-i

@@ -1,7 +1,4 @@
-use Prim.Native.Nat.{◌-◌}
-use native.Mathlib.Omega.{arith}
-use lib.ListN.{length}
-use Rattle.print.proofs.TextLaws.{Copying, copying_none, copying_more, copying_done}
+use Rattle.print.proofs.TextLaws.{copying_none, copying_more, copying_done}
 use Rattle.print.proofs.bytes.put_text.Goals as goal
 
 pub loop-i-init : goal.loop-i-init

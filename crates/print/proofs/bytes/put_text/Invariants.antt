@@ -1,7 +1,6 @@
 use Prim.Native.Nat.{◌-◌}
-use native.Mathlib.Omega.{arith}
 use lib.ListN.{length}
-use Rattle.print.proofs.TextLaws.{Copying, copying_none, copying_more, copying_done}
+use Rattle.print.proofs.TextLaws.{Copying}
 use Rattle.print.proofs.bytes.put_text.Given as goal
 
 -- `bytes::put_text`: entry by entry from the front. Assumes nothing.

@@ -1,5 +1,4 @@
 use native.Mathlib.Omega.{arith}
-use borrow.Author.Rules.{rules}
 use Rattle.print.proofs.CellLaws.{put_no_blocker, put_a_blocker}
 use Rattle.print.proofs.cell.put_blocker.Goals as goal
 

@@ -1,7 +1,6 @@
 use Prim.Native.Nat.{◌≤◌}
 use native.Mathlib.Omega.{arith}
 use lib.ListN.{length}
-use borrow.Author.Rules.{rules}
 use Rattle.model.specs.Listing.{text}
 use Rattle.print.proofs.PutLaws.{put_three}
 use Rattle.print.proofs.line.put_end.Goals as goal

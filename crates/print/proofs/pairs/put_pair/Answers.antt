@@ -1,7 +1,6 @@
 use Prim.Native.Nat.{◌≤◌}
 use native.Mathlib.Omega.{arith}
 use lib.ListN.{length}
-use borrow.Author.Rules.{rules}
 use Rattle.model.specs.Listing.{blocker_text, cell_text, text}
 use Rattle.print.specs.Printed.{block_of}
 use Rattle.print.proofs.PutLaws.{put_all, put_then}

@@ -1,11 +1,6 @@
 use Prim.Native.Nat.{◌-◌}
-use native.Mathlib.Omega.{arith}
-use mathlib.Core.Path.{refl, sym, ◌∙◌}
-use borrow.Author.Rules.{rules}
-use borrow.Author.Tests.{not-true}
 use Rattle.print.specs.Printed.{pair_row}
-use Rattle.print.proofs.PrintLaws.{printed_not}
-use Rattle.print.proofs.RowLaws.{Writing, writing_none, writing_room, writing_more, writing_done}
+use Rattle.print.proofs.RowLaws.{Writing}
 use Rattle.print.proofs.pairs.put_pairs.Given as goal
 
 -- `pairs::put_pairs`: line by line. Assumes nothing.

@@ -1,7 +1,6 @@
 use Prim.Native.Nat.{◌≤◌}
 use native.Mathlib.Omega.{arith}
 use lib.ListN.{length}
-use borrow.Author.Rules.{rules}
 use Rattle.model.specs.Listing.{blocker_text, cell_text, text}
 use Rattle.print.specs.Printed.{block_of}
 use Rattle.print.proofs.DecimalLaws.{room_for}
@@ -9,6 +8,9 @@ use Rattle.print.proofs.PutLaws.{put_all, put_then}
 use Rattle.print.proofs.points.put_point.Goals as goal
 
 -- `points::put_point`: how the line begins, the status, how it ends. Assumes nothing.
+pub put_number-b-requires : goal.put_number-b-requires
+put_number-b-requires c = room_for 19 c.args.status c.put_start-a.result (length c.put_start-a.new.out) (omega arith) (omega arith)
+
 pub returns : goal.returns
 unfolding cell_text text
 returns c =

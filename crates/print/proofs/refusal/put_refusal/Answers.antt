@@ -1,7 +1,6 @@
 use Prim.Native.Nat.{zero-le}
 use native.Mathlib.Omega.{arith}
 use mathlib.Core.Path.{refl}
-use borrow.Author.Rules.{rules}
 use borrow.Author.Tests.{le-leb, lt-leb}
 use Rattle.model.specs.Listing.{decimal, refused_line, text}
 use Rattle.print.proofs.PrintLaws.{printed_done, printed_not}

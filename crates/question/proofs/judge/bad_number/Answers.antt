@@ -4,7 +4,7 @@ use mathlib.Core.Path.{refl}
 use lib.Ieee.{of_bits, odd, neg, le}
 use Rattle.question.proofs.NumberLaws.{least_query, number_test}
 use Rattle.question.proofs.judge.bad_number.Goals as goal
-use Rattle.question.proofs.judge.bad_number.Goals.{else-else-z, then-else-z}
+use Rattle.question.proofs.judge.bad_number.Goals.{else-z-via-else-z, else-z-via-then-z+else-z-2}
 
 -- `judge::bad_number` is two comparisons. Assumes nothing.
 pub returns-then-z-2 : goal.returns-then-z-2
@@ -15,4 +15,4 @@ pub returns : goal.returns
 unfolding of_bits odd neg
 returns c =
     let z = c.args.z in
-    rw (number_test z) (elim c.else-z.branch [ then-else-z w ↦ rw (w.1.left, and-false (le least_query z)) refl | else-else-z w ↦ rw w.left refl ])
+    rw (number_test z) (elim c.else-z.branch [ else-z-via-then-z+else-z-2 w ↦ rw (w.if-z-2.false, and-false (le least_query z)) refl | else-z-via-else-z w ↦ rw w.if-z.false refl ])

@@ -21,18 +21,18 @@ returns-then-columns-x c =
 pub returns-then-in_rows : goal.returns-then-in_rows
 returns-then-in_rows c =
     let s = c.args in
-    left_cell s.columns (flat s.rows) s.cells.now c.loop-i.i c.loop-i.inv c.loop-i-test.true c.if-columns-x.false (and-true (in_bounds s.rows (row (get_or s.cells.now c.loop-i.i 0))) ∙ sym c.in_rows.ensures ∙ c.if-in_rows.true)
+    left_cell s.columns (flat s.rows) s.cells.now c.loop-i.i c.loop-i.invariant c.loop-i-test.true c.if-columns-x.false (and-true (in_bounds s.rows (row (get_or s.cells.now c.loop-i.i 0))) ∙ sym c.in_rows.ensures ∙ c.if-in_rows.true)
 
 pub returns-then-here : goal.returns-then-here
 returns-then-here c =
-    let found : let p = test c in let s = p.before.before.before.args in Stepped s.columns (flat s.rows) s.cells.now c.column-col.result.now p.loop.i c.flat_in-here.result = let s = c.args in
-    left_step s.columns (flat s.rows) s.cells.now c.loop-i.i c.loop-i.inv c.loop-i-test.taken c.if-columns-x.left c.column-col.result.now c.column-col.ensures c.flat_in-here.result (c.flat_in-here.ensures (col (get_or s.cells.now c.loop-i.i 0))) in
+    let found : let s = c.args in Stepped s.columns (flat s.rows) s.cells.now c.column-col.result.now c.loop-i.i c.flat_in-here.result = let s = c.args in
+    left_step s.columns (flat s.rows) s.cells.now c.loop-i.i c.loop-i.invariant c.loop-i-test.true c.if-columns-x.false c.column-col.result.now c.column-col.ensures c.flat_in-here.result (c.flat_in-here.ensures (col (get_or s.cells.now c.loop-i.i 0))) in
     (found).here c.if-here.true
 
 pub loop-i-preserved : goal.loop-i-preserved
 loop-i-preserved c =
-    let found : let p = test c in let s = p.before.before.before.args in Stepped s.columns (flat s.rows) s.cells.now c.column-col.result.now p.loop.i c.flat_in-here.result = let s = c.args in
-    left_step s.columns (flat s.rows) s.cells.now c.loop-i.i c.loop-i.inv c.loop-i-test.taken c.if-columns-x.left c.column-col.result.now c.column-col.ensures c.flat_in-here.result (c.flat_in-here.ensures (col (get_or s.cells.now c.loop-i.i 0))) in
+    let found : let s = c.args in Stepped s.columns (flat s.rows) s.cells.now c.column-col.result.now c.loop-i.i c.flat_in-here.result = let s = c.args in
+    left_step s.columns (flat s.rows) s.cells.now c.loop-i.i c.loop-i.invariant c.loop-i-test.true c.if-columns-x.false c.column-col.result.now c.column-col.ensures c.flat_in-here.result (c.flat_in-here.ensures (col (get_or s.cells.now c.loop-i.i 0))) in
     (found).next c.if-here.false c.after-i.result c.after-i.ensures.1
 
 pub returns : goal.returns

@@ -16,14 +16,14 @@ returns-then-columns-x c =
 
 pub returns-then-here : goal.returns-then-here
 returns-then-here c =
-    let found : let p = test c in let s = p.before.before.before.args in Stepped s.columns (swept s.strip s.size) s.cells.now c.column-col.result.now p.loop.i c.swept_in-here.result = let s = c.args in
-    left_step s.columns (swept s.strip s.size) s.cells.now c.loop-i.i c.loop-i.inv c.loop-i-test.taken c.if-columns-x.left c.column-col.result.now c.column-col.ensures c.swept_in-here.result c.swept_in-here.ensures in
+    let found : let s = c.args in Stepped s.columns (swept s.strip s.size) s.cells.now c.column-col.result.now c.loop-i.i c.swept_in-here.result = let s = c.args in
+    left_step s.columns (swept s.strip s.size) s.cells.now c.loop-i.i c.loop-i.invariant c.loop-i-test.true c.if-columns-x.false c.column-col.result.now c.column-col.ensures c.swept_in-here.result c.swept_in-here.ensures in
     (found).here c.if-here.true
 
 pub loop-i-preserved : goal.loop-i-preserved
 loop-i-preserved c =
-    let found : let p = test c in let s = p.before.before.before.args in Stepped s.columns (swept s.strip s.size) s.cells.now c.column-col.result.now p.loop.i c.swept_in-here.result = let s = c.args in
-    left_step s.columns (swept s.strip s.size) s.cells.now c.loop-i.i c.loop-i.inv c.loop-i-test.taken c.if-columns-x.left c.column-col.result.now c.column-col.ensures c.swept_in-here.result c.swept_in-here.ensures in
+    let found : let s = c.args in Stepped s.columns (swept s.strip s.size) s.cells.now c.column-col.result.now c.loop-i.i c.swept_in-here.result = let s = c.args in
+    left_step s.columns (swept s.strip s.size) s.cells.now c.loop-i.i c.loop-i.invariant c.loop-i-test.true c.if-columns-x.false c.column-col.result.now c.column-col.ensures c.swept_in-here.result c.swept_in-here.ensures in
     (found).next c.if-here.false c.after-i.result c.after-i.ensures.1
 
 pub returns : goal.returns

@@ -1,4 +1,4 @@
-use Rattle.std.proofs.Common.{◌≡◌, true, false, ◌&&◌, sym, refl, ◌∙◌, rules}
+use Rattle.std.proofs.Common.{◌≡◌, true, false, ◌&&◌, sym, refl, ◌∙◌}
 use lib.Ieee.{lt}
 use Rattle.segment.proofs.meets.inside.Goals as goal
 

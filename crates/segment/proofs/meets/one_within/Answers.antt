@@ -1,4 +1,4 @@
-use Rattle.std.proofs.Common.{sym, ◌∙◌, rules}
+use Rattle.std.proofs.Common.{sym, ◌∙◌}
 use Rattle.segment.proofs.CrossingLaws.{none_there, first_there, no_second, second_there}
 use Rattle.segment.proofs.meets.one_within.Goals as goal
 

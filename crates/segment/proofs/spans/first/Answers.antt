@@ -1,4 +1,4 @@
-use Rattle.std.proofs.Common.{◌^◌, ◌<◌, subst, arith, rules}
+use Rattle.std.proofs.Common.{◌^◌, ◌<◌, subst, arith}
 use Rattle.ieee.proofs.Bias.{biased_lt}
 use Rattle.ieee.specs.Whole.{floor_z}
 use lib.Ieee.{Float}

@@ -1,4 +1,4 @@
-use Rattle.std.proofs.Common.{subst, arith, rules}
+use Rattle.std.proofs.Common.{subst, arith}
 use lib.Ieee.{Float}
 use Rattle.segment.specs.Spans.{Above}
 use Rattle.segment.proofs.spans.last.Goals as goal

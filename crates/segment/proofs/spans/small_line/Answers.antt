@@ -1,4 +1,3 @@
-use Rattle.std.proofs.Common.{rules}
 use mathlib.Core.Bool.{false≢true}
 use Rattle.segment.proofs.spans.small_line.Goals as goal
 

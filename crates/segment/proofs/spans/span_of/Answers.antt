@@ -1,4 +1,4 @@
-use Rattle.std.proofs.Common.{◌+◌, ◌-◌, subst, rules}
+use Rattle.std.proofs.Common.{◌+◌, ◌-◌, subst}
 use lib.Ieee.{Float}
 use Rattle.segment.specs.Spans.{Above, Below}
 use Rattle.plane.specs.Edge.{edge_of}

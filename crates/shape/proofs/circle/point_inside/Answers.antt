@@ -1,5 +1,4 @@
 use Rattle.shape.specs.Circle.{point_within}
-use borrow.Author.Rules.{rules}
 use mathlib.Core.Path.{refl}
 use Rattle.shape.proofs.circle.point_inside.Goals as goal
 

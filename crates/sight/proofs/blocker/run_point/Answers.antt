@@ -10,6 +10,7 @@ use Rattle.model.specs.Map.{tests}
 use Rattle.sight.proofs.ChangeLaws.{Running, point_steps, running_start, running_next, running_end}
 use Rattle.sight.proofs.PointLaws.{Given, point_apart, point_freed, point_kept, point_met}
 use Rattle.sight.proofs.blocker.run_point.Goals as goal
+use Rattle.sight.proofs.blocker.run_point.Goals.{else-block-eq0-via-then-block-eq0+else-within, else-block-eq0-via-else-block-eq0, then-full-i-eq0+then-block-c, then-full-i-eq0+else-block-c, else-full-i-eq0+then-block-eq0+then-within, else-full-i-eq0+else-block-eq0}
 
 pub loop-i-init : goal.loop-i-init
 loop-i-init c =
@@ -22,16 +23,16 @@ loop-i-preserved c =
     let h = c.loop-i-test.true in
     let k = get_or s.confirmed.now c.loop-i.i 0 in
     let t = point_steps (tests s.size s.radius) s.cells.now s.k in
-    ⊎_elim
-    (λ w. rw w.3 (running_next t c.loop-i.invariant w.2.result false h (means_free w.0.taken) (point_freed s.size s.radius s.reach s.cells.now s.k k c.loop-i.block w.2.result w.1.taken w.2.ensures)))
-    (⊎_elim
-    (λ w. rw w.2 (running_next t c.loop-i.invariant c.loop-i.block false h (means_free w.0.taken) (point_kept s.size s.radius s.reach s.cells.now s.k k c.loop-i.block w.1.left)))
-    (⊎_elim
-    (λ w. rw w.4 (running_next t c.loop-i.invariant k true h (means_full w.0.left) (point_met s.size s.radius s.reach s.cells.now s.k k c.loop-i.block w.2.result w.1.taken w.2.ensures w.3.taken)))
-    (λ w. rw w.2
-    (running_next t c.loop-i.invariant c.loop-i.block true h (means_full w.0.left) (point_apart s.size s.radius s.reach s.cells.now s.k k c.loop-i.block
-    (⊎_elim (λ v z. sym v.1.ensures ∙ v.2.left) (λ v z. absurd (v.left z)) w.1.came))))))
-    c.if-full-i-eq0.branch
+    elim c.if-full-i-eq0.branch [
+      | then-full-i-eq0+then-block-c w ↦ rw w.block-is (running_next t c.loop-i.invariant w.square_at-block.result false h (means_free w.if-full-i-eq0.true) (point_freed s.size s.radius s.reach s.cells.now s.k k c.loop-i.block w.square_at-block.result w.if-block-c.true w.square_at-block.ensures))
+      | then-full-i-eq0+else-block-c w ↦ rw w.block-is (running_next t c.loop-i.invariant c.loop-i.block false h (means_free w.if-full-i-eq0.true) (point_kept s.size s.radius s.reach s.cells.now s.k k c.loop-i.block w.if-block-c.false))
+      | else-full-i-eq0+then-block-eq0+then-within w ↦ rw w.block-is (running_next t c.loop-i.invariant k true h (means_full w.if-full-i-eq0.false) (point_met s.size s.radius s.reach s.cells.now s.k k c.loop-i.block w.within.result w.if-block-eq0.true w.within.ensures w.if-within.true))
+      | else-full-i-eq0+else-block-eq0 w ↦ rw w.block-is (running_next t c.loop-i.invariant c.loop-i.block true h (means_full w.if-full-i-eq0.false) (point_apart s.size s.radius s.reach s.cells.now s.k k c.loop-i.block
+          (elim w.else-block-eq0.branch [
+            | else-block-eq0-via-then-block-eq0+else-within v ↦ λ z. sym v.within.ensures ∙ v.if-within.false
+            | else-block-eq0-via-else-block-eq0 v ↦ λ z. absurd (v.if-block-eq0.false z)
+          ])))
+    ]
 
 pub returns : goal.returns
 returns c =

@@ -9,6 +9,7 @@ use Rattle.sight.proofs.EdgeLaws.{Running, running_end, running_freed, running_k
 use Rattle.segment.specs.Many.{prepared}
 use Rattle.sight.proofs.NearLaws.{prepared_answers}
 use Rattle.sight.proofs.pair.run_pair.Goals as goal
+use Rattle.sight.proofs.pair.run_pair.Goals.{then-full-i-eq0+then-block-c, then-full-i-eq0+else-block-c, else-full-i-eq0+then-passes, else-full-i-eq0+else-passes}
 
 pub returns-then-confirmed-eq0 : goal.returns-then-confirmed-eq0
 returns-then-confirmed-eq0 c = λ ch o order inside changes confirmed_are full_are is_proximity e n.
@@ -20,27 +21,18 @@ returns-then-confirmed-eq0 c = λ ch o order inside changes confirmed_are full_a
 pub loop-i-init : goal.loop-i-init
 loop-i-init c = running_start _ _ _ _ _ _ _ _ _
 
-pub offset_bounds-confirmed-i : goal.offset_bounds-confirmed-i
-offset_bounds-confirmed-i c =
-    let long : length c.args.confirmed.now * 8 < 2 ^ 63 = c.ranges.1.1.1.1.0.1 in
-    let k = long in omega (arith, c.loop-i-test.true)
-
-pub overflow_add-i : goal.overflow_add-i
-overflow_add-i c =
-    let long : length c.args.confirmed.now * 8 < 2 ^ 63 = c.ranges.1.1.1.1.0.1 in
-    let k = long in omega (arith, c.loop-i-test.true)
-
 pub loop-i-preserved : goal.loop-i-preserved
 loop-i-preserved c =
     let inv = c.loop-i.invariant in
     let a = c.args in
     let h = c.loop-i-test.true in
     let f : get_or a.confirmed.now c.loop-i.i 0 < 2 ^ 64 = (c.shared_slice_known-in-loop-i-1.given c.loop-i.i).fits in
-    ⊎_elim (λ w. rw w.3 (running_freed inv h w.0.taken w.1.taken w.2.result w.2.ensures))
-    (⊎_elim (λ w. rw w.2 (running_kept inv h w.0.taken w.1.left))
-    (⊎_elim (λ w. rw w.3 (running_passed inv h w.0.left f (sym w.1.ensures ∙ w.2.taken)))
-    (λ w. rw w.3 (running_missed inv h w.0.left f (sym w.1.ensures ∙ w.2.left)))))
-    c.if-full-i-eq0.branch
+    elim c.if-full-i-eq0.branch [
+      | then-full-i-eq0+then-block-c w ↦ rw w.block-is (running_freed inv h w.if-full-i-eq0.true w.if-block-c.true w.sweep_between-block.result w.sweep_between-block.ensures)
+      | then-full-i-eq0+else-block-c w ↦ rw w.block-is (running_kept inv h w.if-full-i-eq0.true w.if-block-c.false)
+      | else-full-i-eq0+then-passes w ↦ rw w.block-is (running_passed inv h w.if-full-i-eq0.false f (sym w.passes.ensures ∙ w.if-passes.true))
+      | else-full-i-eq0+else-passes w ↦ rw w.block-is (running_missed inv h w.if-full-i-eq0.false f (sym w.passes.ensures ∙ w.if-passes.false))
+    ]
 
 pub returns : goal.returns
 returns c = λ ch o order inside changes confirmed_are full_are is_proximity e n.

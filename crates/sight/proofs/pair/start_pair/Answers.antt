@@ -13,16 +13,6 @@ use Rattle.sight.specs.Paired.{old_pair}
 use Rattle.sight.proofs.PairLaws.{start_held, start_new, start_open}
 use Rattle.sight.proofs.pair.start_pair.Goals as goal
 
--- which sweep: the marks are the points'
-queued : (c : goal.After-is_sooner) (b : Bool)
-    → let a = c.args in
-    (w v : Standing) → a.was ≡ mood w → a.other ≡ mood v → c.is_sooner.result ≡ b → sooner w.first v.first ≡ b
-queued c b w v e f h =
-    let a = c.args in
-    let g : a.was.first ≡ w.first = ap (λ (m : Mood). m.first) e in
-    let k : a.other.first ≡ v.first = ap (λ (m : Mood). m.first) f in
-    ap (λ (n : ℕ). sooner n v.first) (sym g) ∙ ap (sooner a.was.first) (sym k) ∙ sym c.is_sooner.ensures ∙ h
-
 pub returns-then-held-eq1 : goal.returns-then-held-eq1
 returns-then-held-eq1 c =
     let held : let a = c.args in (P : PairsBy) (w v : Standing) → Pairs P a.old.now → a.was ≡ mood w → a.other ≡ mood v → w.old ≤ max_points → v.old ≤ max_points → c.old_pair-held.result ≡ pair_code (old_pair P w v) = λ P w v s e f x y. let a = c.args in
@@ -45,6 +35,11 @@ returns-then-held-ne0 c =
 
 pub returns-then-is_sooner : goal.returns-then-is_sooner
 returns-then-is_sooner c =
+    let queued : (b : Bool) (w v : Standing) → c.args.was ≡ mood w → c.args.other ≡ mood v → c.is_sooner.result ≡ b → sooner w.first v.first ≡ b = λ b w v e f h.
+    let a = c.args in
+    let g : a.was.first ≡ w.first = ap (λ (m : Mood). m.first) e in
+    let k : a.other.first ≡ v.first = ap (λ (m : Mood). m.first) f in
+    ap (λ (n : ℕ). sooner n v.first) (sym g) ∙ ap (sooner a.was.first) (sym k) ∙ sym c.is_sooner.ensures ∙ h in
     let held : let a = c.args in (P : PairsBy) (w v : Standing) → Pairs P a.old.now → a.was ≡ mood w → a.other ≡ mood v → w.old ≤ max_points → v.old ≤ max_points → c.old_pair-held.result ≡ pair_code (old_pair P w v) = λ P w v s e f x y. let a = c.args in
     let g : a.was.old ≡ w.old = ap (λ (m : Mood). m.old) e in
     let h : a.other.old ≡ v.old = ap (λ (m : Mood). m.old) f in
@@ -52,10 +47,15 @@ returns-then-is_sooner c =
     λ P w v o i s n e f x y.
     let a = c.args in
     c.sweep_between.ensures o i
-    ∙ start_new (tests a.size a.radius) a.cells.now P a.p w a.q v c.old_pair-held.result (held P w v s e f x y) n c.if-held-ne0.false true (queued c true w v e f c.if-is_sooner.true)
+    ∙ start_new (tests a.size a.radius) a.cells.now P a.p w a.q v c.old_pair-held.result (held P w v s e f x y) n c.if-held-ne0.false true (queued true w v e f c.if-is_sooner.true)
 
 pub returns : goal.returns
 returns c =
+    let queued : (b : Bool) (w v : Standing) → c.args.was ≡ mood w → c.args.other ≡ mood v → c.is_sooner.result ≡ b → sooner w.first v.first ≡ b = λ b w v e f h.
+    let a = c.args in
+    let g : a.was.first ≡ w.first = ap (λ (m : Mood). m.first) e in
+    let k : a.other.first ≡ v.first = ap (λ (m : Mood). m.first) f in
+    ap (λ (n : ℕ). sooner n v.first) (sym g) ∙ ap (sooner a.was.first) (sym k) ∙ sym c.is_sooner.ensures ∙ h in
     let held : let a = c.args in (P : PairsBy) (w v : Standing) → Pairs P a.old.now → a.was ≡ mood w → a.other ≡ mood v → w.old ≤ max_points → v.old ≤ max_points → c.old_pair-held.result ≡ pair_code (old_pair P w v) = λ P w v s e f x y. let a = c.args in
     let g : a.was.old ≡ w.old = ap (λ (m : Mood). m.old) e in
     let h : a.other.old ≡ v.old = ap (λ (m : Mood). m.old) f in
@@ -63,4 +63,4 @@ returns c =
     λ P w v o i s n e f x y.
     let a = c.args in
     c.sweep_between-2.ensures o i
-    ∙ start_new (tests a.size a.radius) a.cells.now P a.p w a.q v c.old_pair-held.result (held P w v s e f x y) n c.if-held-ne0.false false (queued c false w v e f c.if-is_sooner.false)
+    ∙ start_new (tests a.size a.radius) a.cells.now P a.p w a.q v c.old_pair-held.result (held P w v s e f x y) n c.if-held-ne0.false false (queued false w v e f c.if-is_sooner.false)

@@ -1,4 +1,3 @@
-use borrow.Author.Rules.{rules}
 use Rattle.model.specs.Cell.{apart, col, row}
 use Rattle.sight.proofs.NearLaws.{first_far, first_within}
 use Rattle.sight.proofs.within.within.Goals as goal

@@ -1,7 +1,6 @@
 use Prim.Native.Nat.{◌-◌}
-use native.Mathlib.Omega.{arith}
 use lib.ListN.{length}
-use Rattle.table.proofs.FillLaws.{Clearing, clearing_none, clearing_more, clearing_done}
+use Rattle.table.proofs.FillLaws.{Clearing}
 use Rattle.table.proofs.bytes.clear_bytes.Given as goal
 
 -- `bytes::clear_bytes`: the first i are zeros. Assumes nothing.

@@ -1,7 +1,6 @@
 use Prim.Native.Nat.{◌-◌}
-use native.Mathlib.Omega.{arith}
 use lib.ListN.{length}
-use Rattle.table.proofs.CopyLaws.{Copying, copied_short, copying_none, copying_more, copying_done}
+use Rattle.table.proofs.CopyLaws.{Copying}
 use Rattle.table.proofs.bytes.copy_bytes.Given as goal
 
 -- `bytes::copy_bytes`: entry by entry from the front. Assumes nothing.

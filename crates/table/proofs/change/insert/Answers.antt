@@ -3,7 +3,6 @@ use native.Mathlib.Omega.{arith}
 use mathlib.Core.Path.{◌≡◌, sym, ◌∙◌}
 use lib.ListN.{length, take}
 use lib.Seq.{length-take-le}
-use borrow.Author.Rules.{rules}
 use Rattle.table.specs.Tables.{added}
 use Rattle.table.proofs.LookLaws.{there}
 use Rattle.table.proofs.TableLaws.{added_full, added_there, changed_none, inserted}

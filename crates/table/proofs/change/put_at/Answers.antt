@@ -1,4 +1,3 @@
-use borrow.Author.Rules.{rules}
 use Rattle.table.proofs.ShiftLaws.{put_there}
 use Rattle.table.proofs.change.put_at.Goals as goal
 

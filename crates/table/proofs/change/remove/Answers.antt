@@ -4,7 +4,6 @@ use mathlib.Core.Path.{◌≡◌, sym, ◌∙◌}
 use mathlib.Core.Bool.{true}
 use lib.ListN.{take}
 use lib.Seq.{length-take-le}
-use borrow.Author.Rules.{rules}
 use Rattle.model.specs.Maps.{cut}
 use Rattle.table.specs.Tables.{stands}
 use Rattle.table.proofs.LookLaws.{absent, stands_inside}

@@ -1,10 +1,8 @@
 use Prim.Native.Nat.{◌-◌, ◌≤◌}
-use native.Mathlib.Omega.{arith}
-use mathlib.Core.Path.{◌≡◌, refl, ap, ◌∙◌}
-use lib.ListN.{length, length-set}
+use mathlib.Core.Path.{◌≡◌}
+use lib.ListN.{length}
 use Rattle.table.proofs.Front.{mix}
 use Rattle.table.specs.Tables.{shift_down}
-use Rattle.table.proofs.ShiftLaws.{down_empty, down_more, down_done}
 use Rattle.table.proofs.change.shift_down.Given as goal
 
 -- `change::shift_down`: after i turns the first i are shifted, and those behind are the slice's own. Assumes nothing.

@@ -1,9 +1,7 @@
-use Prim.Native.Nat.{ℕ, ◌-◌, ◌≤◌}
+use Prim.Native.Nat.{ℕ, ◌-◌}
 use native.Mathlib.Omega.{arith}
-use mathlib.Core.Path.{◌≡◌, refl, ◌∙◌}
-use lib.ListN.{length, length-set}
-use Rattle.table.proofs.Front.{mix}
-use Rattle.table.specs.Tables.{shift_up}
+use mathlib.Core.Path.{refl, ◌∙◌}
+use lib.ListN.{length-set}
 use Rattle.table.proofs.ShiftLaws.{up_none, up_more, up_done}
 use Rattle.table.proofs.change.shift_up.Goals as goal
 

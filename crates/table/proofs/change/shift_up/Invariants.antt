@@ -1,10 +1,8 @@
-use Prim.Native.Nat.{ℕ, ◌-◌, ◌≤◌}
-use native.Mathlib.Omega.{arith}
-use mathlib.Core.Path.{◌≡◌, refl, ◌∙◌}
-use lib.ListN.{length, length-set}
+use Prim.Native.Nat.{◌≤◌}
+use mathlib.Core.Path.{◌≡◌}
+use lib.ListN.{length}
 use Rattle.table.proofs.Front.{mix}
 use Rattle.table.specs.Tables.{shift_up}
-use Rattle.table.proofs.ShiftLaws.{up_none, up_more, up_done}
 use Rattle.table.proofs.change.shift_up.Given as goal
 
 -- `change::shift_up`: with i places to go, the first i are the slice's own, and those behind are shifted. Assumes nothing.

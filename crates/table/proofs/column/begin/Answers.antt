@@ -2,7 +2,6 @@ use Prim.Native.Nat.{ℕ, ◌*◌, ◌<◌}
 use native.Mathlib.Omega.{arith}
 use mathlib.Core.Path.{sym}
 use lib.ListN.{get_or}
-use borrow.Author.Rules.{rules}
 use Rattle.model.specs.Cell.{W}
 use Rattle.table.proofs.AllLaws.{all_from}
 use Rattle.table.proofs.RankLaws.{rank_all}

@@ -2,7 +2,6 @@ use Prim.Native.Nat.{ℕ, ◌+◌, ◌-◌, ◌*◌}
 use native.Mathlib.Omega.{arith}
 use mathlib.Core.Path.{◌≡◌, ap, ◌∙◌}
 use lib.ListN.{drop, take}
-use borrow.Author.Rules.{rules}
 use Rattle.table.proofs.Parts.{tail_is}
 use Rattle.model.specs.Cell.{W}
 use Rattle.table.specs.Tables.{rank}

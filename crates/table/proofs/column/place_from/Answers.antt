@@ -1,12 +1,9 @@
 use native.Mathlib.Omega.{arith}
 use Prim.Native.Nat.{ℕ, ◌+◌, ◌-◌, ◌≤◌, ◌<◌}
-use mathlib.Core.Logic.{⊎_elim}
 use mathlib.Core.Path.{ap, ◌∙◌}
 use lib.ListN.{length, drop, get_or}
-use borrow.Author.Rules.{rules}
-use borrow.Author.Tests.{ltb-true, ltb-false}
 use Rattle.table.proofs.AllLaws.{asc_l_take, asc_l_drop}
-use Rattle.table.proofs.DoublingLaws.{Doubled, doubled_none, doubled_more, doubled_ends, doubled_out}
+use Rattle.table.proofs.DoublingLaws.{doubled_none, doubled_more, doubled_ends, doubled_out}
 use Rattle.table.proofs.column.place_from.Goals as goal
 use Rattle.table.proofs.column.place_from.Goals.{else-loop-n-test, then-loop-n-test+else-t-n}
 

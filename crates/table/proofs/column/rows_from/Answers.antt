@@ -1,10 +1,7 @@
 use Prim.Native.Nat.{ℕ, ◌+◌, ◌*◌}
 use native.Mathlib.Omega.{arith}
 use mathlib.Core.Path.{◌≡◌, ap, ◌∙◌}
-use mathlib.Core.Logic.{⊎_elim}
 use lib.ListN.{get_or}
-use borrow.Author.Tests.{leb-false, leb-true}
-use borrow.Author.Rules.{rules}
 use Rattle.table.proofs.Parts.{tail_is}
 use Rattle.model.specs.Cell.{W, col}
 use Rattle.table.specs.Tables.{rank}

@@ -1,7 +1,4 @@
-use Prim.Native.Nat.{◌-◌}
-use native.Mathlib.Omega.{arith}
-use lib.ListN.{length}
-use Rattle.table.proofs.FillLaws.{Clearing, clearing_none, clearing_more, clearing_done}
+use Rattle.table.proofs.FillLaws.{clearing_none, clearing_more, clearing_done}
 use Rattle.table.proofs.copy.clear.Goals as goal
 
 pub loop-i-init : goal.loop-i-init

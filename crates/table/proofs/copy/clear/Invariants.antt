@@ -1,7 +1,6 @@
 use Prim.Native.Nat.{◌-◌}
-use native.Mathlib.Omega.{arith}
 use lib.ListN.{length}
-use Rattle.table.proofs.FillLaws.{Clearing, clearing_none, clearing_more, clearing_done}
+use Rattle.table.proofs.FillLaws.{Clearing}
 use Rattle.table.proofs.copy.clear.Given as goal
 
 -- `copy::clear`: the first i are zeros. Assumes nothing.

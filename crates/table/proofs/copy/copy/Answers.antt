@@ -1,7 +1,4 @@
-use Prim.Native.Nat.{◌-◌}
-use native.Mathlib.Omega.{arith}
-use lib.ListN.{length}
-use Rattle.table.proofs.CopyLaws.{Copying, copied_short, copying_none, copying_more, copying_done}
+use Rattle.table.proofs.CopyLaws.{copied_short, copying_none, copying_more, copying_done}
 use Rattle.table.proofs.copy.copy.Goals as goal
 
 pub returns-then-to-from : goal.returns-then-to-from

@@ -1,7 +1,6 @@
 use Prim.Native.Nat.{◌-◌}
-use native.Mathlib.Omega.{arith}
 use lib.ListN.{length}
-use Rattle.table.proofs.CopyLaws.{Copying, copied_short, copying_none, copying_more, copying_done}
+use Rattle.table.proofs.CopyLaws.{Copying}
 use Rattle.table.proofs.copy.copy.Given as goal
 
 -- `copy::copy`: entry by entry from the front. Assumes nothing.

@@ -1,7 +1,6 @@
 use Prim.Native.Nat.{◌^◌}
 use native.Mathlib.Omega.{arith}
 use mathlib.Core.Path.{◌≡◌}
-use borrow.Author.Rules.{rules}
 use lib.Pow.{pow_pos}
 use Rattle.table.proofs.SearchLaws.{look_is, looked_le}
 use Rattle.table.proofs.look.look.Goals as goal

@@ -1,4 +1,3 @@
-use borrow.Author.Rules.{rules}
 use Rattle.table.proofs.SearchLaws.{power_is}
 use Rattle.table.proofs.look.power.Goals as goal
 

@@ -1,7 +1,6 @@
 use native.Mathlib.Omega.{arith}
 use mathlib.Core.Logic.{⊎_elim}
 use lib.ListN.{length}
-use borrow.Author.Rules.{rules}
 use Rattle.table.proofs.LookLaws.{byte_behind, has_none, seen_has}
 use Rattle.table.proofs.place.contains.Goals as goal
 

@@ -1,8 +1,6 @@
-use Prim.Native.Nat.{◌<◌}
 use native.Mathlib.Omega.{arith}
 use lib.Pow.{pow_pos}
-use borrow.Author.Rules.{rules}
-use Rattle.table.proofs.SearchLaws.{Within, placed_none, within_first, within_last, within_last_room, within_next, within_room}
+use Rattle.table.proofs.SearchLaws.{placed_none, within_first, within_last, within_last_room, within_next, within_room}
 use Rattle.table.proofs.place.place.Goals as goal
 
 pub returns-then-t-eq0 : goal.returns-then-t-eq0

@@ -1,7 +1,6 @@
 use native.Mathlib.Omega.{arith}
 use lib.Pow.{pow_pos}
-use borrow.Author.Rules.{rules}
-use Rattle.table.proofs.SearchLaws.{Searches, searches_first, searches_room, searches_last_room, searches_next, searches_last}
+use Rattle.table.proofs.SearchLaws.{searches_first, searches_room, searches_last_room, searches_next, searches_last}
 use Rattle.table.proofs.places.places_from.Goals as goal
 
 pub begin_all-f-requires : goal.begin_all-f-requires

@@ -1,7 +1,4 @@
-use native.Mathlib.Omega.{arith}
-use lib.Pow.{pow_pos}
-use borrow.Author.Rules.{rules}
-use Rattle.table.proofs.SearchLaws.{Searches, searches_first, searches_room, searches_last_room, searches_next, searches_last}
+use Rattle.table.proofs.SearchLaws.{Searches}
 use Rattle.table.proofs.places.places_from.Given as goal
 
 -- `places::places_from`: with each look each place is known twice as well. Assumes nothing.

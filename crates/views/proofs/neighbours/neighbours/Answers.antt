@@ -75,4 +75,4 @@ returns c =
     c.off_edge.ensures in
     let going : let a = c.args in Going a.map a.cells.now a.out.now a.cell.x a.cell.y = record { pass = sym (number) ∙ c.if-number-ne0.false } in
     steps_listed (going) c.key-k.result c.key-k.ensures
-    c.square_at.result c.square_at.ensures c.write_steps-found.new.1.1.1.1.0 c.write_steps-found.result c.if-square_at-ne0.false c.write_steps-found.ensures
+    c.square_at.result c.square_at.ensures c.write_steps-found.new.out c.write_steps-found.result c.if-square_at-ne0.false c.write_steps-found.ensures

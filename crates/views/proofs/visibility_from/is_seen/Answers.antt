@@ -1,5 +1,4 @@
 use mathlib.Core.Path.{sym, ◌∙◌}
-use borrow.Author.Tests.{not-false, not-true}
 use Rattle.model.specs.Corner.{sees}
 use Rattle.model.specs.Map.{tests}
 use Rattle.looks.proofs.NamedLaws.{sweep_named}
@@ -15,10 +14,10 @@ returns-then-blocker-ne0 c =
 pub returns-then-not-sees : goal.returns-then-not-sees
 returns-then-not-sees c =
     let a = c.args in
-    λ b o u i e f n. seen_hidden o a.blocker n f c.if-blocker-ne0.false (sees a.k a.p b) _ (sym (c.sees.ensures b e) ∙ not-true _ c.if-not-sees.true)
+    λ b o u i e f n. seen_hidden o a.blocker n f c.if-blocker-ne0.false (sees a.k a.p b) _ (sym (c.sees.ensures b e) ∙ c.if-not-sees.true)
 
 pub returns : goal.returns
 returns c =
     let a = c.args in
     λ b o u i e f n. seen_swept o a.blocker n f c.if-blocker-ne0.false (sees a.k a.p b) ((tests a.size a.radius).sweep a.cells.now a.k a.p).cell c.sweep_between.result
-    (sym (c.sees.ensures b e) ∙ not-false _ c.if-not-sees.false) (sweep_named a.size a.radius a.cells.now a.k a.p i) (c.sweep_between.ensures u i)
+    (sym (c.sees.ensures b e) ∙ c.if-not-sees.false) (sweep_named a.size a.radius a.cells.now a.k a.p i) (c.sweep_between.ensures u i)

@@ -1,4 +1,3 @@
-use borrow.Author.Rules.{rules}
 use Rattle.corner.specs.Weights.{dir}
 use Rattle.corner.proofs.StatusLaws.{got_is}
 use Rattle.corner.proofs.bits.CornerStatus.get.Goals as goal

@@ -1,4 +1,3 @@
-use borrow.Author.Rules.{rules}
 use Rattle.corner.specs.Weights.{dir}
 use Rattle.corner.proofs.StatusLaws.{cleared_is, marked_is}
 use Rattle.corner.proofs.bits.CornerStatus.set.Goals as goal

@@ -1,7 +1,5 @@
-use Rattle.std.proofs.Common.{arith, rules}
+use Rattle.std.proofs.Common.{arith}
 use Rattle.marks.proofs.MoodLaws.{word_read}
-use Rattle.marks.proofs.mood.Mood.of_word.Reads as reads
-use Rattle.marks.proofs.mood.Mood.of_word.Lts as lts
 use Rattle.marks.proofs.mood.Mood.of_word.Goals as goal
 
 pub returns : goal.returns

@@ -1,5 +1,5 @@
 use Rattle.ieee.specs.Root.{root_f}
-use Rattle.std.proofs.Common.{sym, ap, ◌∙◌, rules}
+use Rattle.std.proofs.Common.{sym, ap, ◌∙◌}
 use lib.Ieee.{Float}
 use Rattle.segment.specs.Squared.{squared}
 use Rattle.plane.specs.Values.{pt}

@@ -1,5 +1,5 @@
 use Rattle.model.specs.Segment.{horizontal_at}
-use Rattle.std.proofs.Common.{refl, ◌∙◌, rules}
+use Rattle.std.proofs.Common.{refl, ◌∙◌}
 use Rattle.segment.proofs.line.LineSegment.horizontal_intersect.Goals as goal
 
 -- `LineSegment::horizontal_intersect` is the vertical one with the axes exchanged. Assumes nothing.

@@ -1,5 +1,5 @@
 use Rattle.model.specs.Plane.{Pt, over, norm}
-use Rattle.std.proofs.Common.{ap, ◌∙◌, rules}
+use Rattle.std.proofs.Common.{ap, ◌∙◌}
 use Rattle.segment.proofs.SquaredLaws.{measured_is}
 use Rattle.segment.proofs.line.LineSegment.measured.Goals as goal
 

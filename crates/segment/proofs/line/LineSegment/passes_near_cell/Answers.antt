@@ -1,4 +1,4 @@
-use Rattle.std.proofs.Common.{sym, ap, ◌∙◌, rules}
+use Rattle.std.proofs.Common.{sym, ap, ◌∙◌}
 use Rattle.segment.specs.Near.{near_by}
 use Rattle.segment.specs.declared.measured.Measured.{Measured}
 use Rattle.segment.proofs.NearLaws.{near_is}

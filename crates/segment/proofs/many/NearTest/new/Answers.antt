@@ -1,11 +1,11 @@
-use Rattle.std.proofs.Common.{sym, refl, ◌∙◌, true≢false, rules}
+use Rattle.std.proofs.Common.{sym, refl, ◌∙◌, true≢false}
 use Rattle.segment.proofs.SpanLaws.{nothing_near, all_inside}
 use Rattle.segment.proofs.many.NearTest.new.Goals as goal
 
 -- `NearTest::new`: the spans leave out nothing near. Assumes nothing.
 pub returns-then-wide : goal.returns-then-wide
 returns-then-wide c =
-    let m = c.decreases in
+    let m = c.measured-line in
     let a = c.args in
     let line = c.small_line.ensures c.if-small_line.true in
     let wide = c.wide.ensures c.if-wide.true in

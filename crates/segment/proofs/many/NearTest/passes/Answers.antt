@@ -1,4 +1,4 @@
-use Rattle.std.proofs.Common.{◌≡◌, true, false, ltb, sym, refl, ◌∙◌, arith, rules, le-ltb, lt-ltb}
+use Rattle.std.proofs.Common.{◌≡◌, true, false, ltb, sym, refl, ◌∙◌, le-ltb, lt-ltb}
 use lib.Bits.{bit_or}
 use Rattle.segment.specs.Many.{in_spans}
 use Rattle.segment.proofs.SpanLaws.{or_sign}

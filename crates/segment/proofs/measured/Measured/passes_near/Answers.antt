@@ -1,7 +1,7 @@
-use Rattle.std.proofs.Common.{◌≡◌, ◌-◌, ◌/◌, ◌%◌, ◌≤◌, pos, ap, ◌∙◌, arith}
+use Rattle.std.proofs.Common.{◌≡◌, ◌/◌, ◌%◌, pos, ap, ◌∙◌, arith}
 use Rattle.model.specs.Plane.{Pt, low_corner}
 use Rattle.segment.specs.Squared.{squared}
-use Rattle.segment.proofs.NearLaws.{Open, open_all, open_none, corner_near, corner_far, corner_open}
+use Rattle.segment.proofs.NearLaws.{open_all, open_none, corner_near, corner_far, corner_open}
 use Rattle.segment.proofs.measured.Measured.passes_near.Goals as goal
 
 pub loop-i-init : goal.loop-i-init

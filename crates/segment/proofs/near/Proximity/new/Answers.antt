@@ -1,5 +1,5 @@
 use Rattle.model.specs.Plane.{bound}
-use Rattle.std.proofs.Common.{refl, rules}
+use Rattle.std.proofs.Common.{refl}
 use Rattle.segment.proofs.near.Proximity.new.Goals as goal
 
 -- `Proximity::new` works out the two thresholds. Assumes nothing.

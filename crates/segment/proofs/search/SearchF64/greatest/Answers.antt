@@ -1,4 +1,4 @@
-use Rattle.std.proofs.Common.{refl, rules}
+use Rattle.std.proofs.Common.{refl}
 use Rattle.segment.proofs.search.SearchF64.greatest.Goals as goal
 
 -- `segment::search::SearchF64::greatest` meets its contract. Assumes nothing.

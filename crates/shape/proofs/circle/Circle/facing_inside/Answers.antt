@@ -1,4 +1,3 @@
-use borrow.Author.Rules.{rules}
 use lib.Ieee.{of_bits}
 use mathlib.Core.Path.{refl}
 use Rattle.shape.proofs.circle.Circle.facing_inside.Goals as goal

@@ -1,5 +1,4 @@
 use Rattle.shape.specs.Circle.{sides_within}
-use borrow.Author.Rules.{rules}
 use mathlib.Core.Path.{refl, sym, ◌∙◌}
 use Rattle.shape.proofs.circle.Circle.sides_inside.Goals as goal
 

@@ -1,12 +1,10 @@
-use borrow.Author.Rules.{rules}
 use lib.Ieee.{le}
 use mathlib.Core.Bool.{and-false}
-use mathlib.Core.Logic.{⊎_elim}
 use mathlib.Core.Path.{refl, ◌∙◌}
 use Rattle.plane.specs.Values.{pt}
 use Rattle.shape.proofs.SweepLaws.{corner_in, corner_out}
 use Rattle.shape.proofs.sweep.Heights.with_corner.Goals as goal
-use Rattle.shape.proofs.sweep.Heights.with_corner.Goals.{else-else-left-p, then-else-left-p}
+use Rattle.shape.proofs.sweep.Heights.with_corner.Goals.{else-left-p-via-else-left-p, else-left-p-via-then-left-p+else-p-right}
 
 -- `Heights::with_corner` takes the corner's height where the corner is in the column. Assumes nothing.
 pub returns-then-p-right : goal.returns-then-p-right
@@ -17,4 +15,4 @@ returns-then-p-right c =
 pub returns : goal.returns
 returns c =
     let a = c.args in
-    corner_out a.self (pt a.p) a.left a.right (elim c.else-left-p.branch [ then-else-left-p w ↦ rw w.2.left (and-false (le a.left a.p.x)) | else-else-left-p w ↦ rw w.left refl ])
+    corner_out a.self (pt a.p) a.left a.right (elim c.else-left-p.branch [ else-left-p-via-then-left-p+else-p-right w ↦ rw w.if-p-right.false (and-false (le a.left a.p.x)) | else-left-p-via-else-left-p w ↦ rw w.if-left-p.false refl ])

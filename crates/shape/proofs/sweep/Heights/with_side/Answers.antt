@@ -1,4 +1,3 @@
-use borrow.Author.Rules.{rules}
 use mathlib.Core.Path.{◌∙◌}
 use Rattle.shape.proofs.SweepLaws.{none_met, one_met, two_met}
 use Rattle.shape.proofs.sweep.Heights.with_side.Goals as goal

@@ -1,4 +1,3 @@
-use borrow.Author.Rules.{rules}
 use mathlib.Core.Path.{refl}
 use Rattle.shape.specs.Sweep.{columns_of}
 use Rattle.shape.proofs.sweep.Strip.columns.Goals as goal

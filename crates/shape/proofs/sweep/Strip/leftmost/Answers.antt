@@ -1,4 +1,3 @@
-use borrow.Author.Rules.{rules}
 use mathlib.Core.Path.{refl}
 use Rattle.model.specs.Shape.{leftmost}
 use Rattle.shape.proofs.sweep.Strip.leftmost.Goals as goal

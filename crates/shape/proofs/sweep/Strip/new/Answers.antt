@@ -1,4 +1,3 @@
-use borrow.Author.Rules.{rules}
 use Rattle.model.specs.Shape.{strip_of}
 use Rattle.shape.proofs.sweep.Strip.new.Goals as goal
 

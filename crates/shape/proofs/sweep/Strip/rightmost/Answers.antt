@@ -1,4 +1,3 @@
-use borrow.Author.Rules.{rules}
 use mathlib.Core.Path.{refl}
 use Rattle.model.specs.Shape.{rightmost}
 use Rattle.shape.proofs.sweep.Strip.rightmost.Goals as goal

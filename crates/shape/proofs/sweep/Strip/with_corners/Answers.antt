@@ -1,4 +1,3 @@
-use borrow.Author.Rules.{rules}
 use Rattle.shape.specs.Sweep.{strip}
 use Rattle.shape.proofs.SweepLaws.{corners_met}
 use Rattle.shape.proofs.sweep.Strip.with_corners.Goals as goal

@@ -1,7 +1,6 @@
 use Rattle.model.specs.Shape.{sides, sides_at}
 use Rattle.shape.specs.Sweep.{met, strip}
 use Rattle.shape.proofs.SweepLaws.{sides_met}
-use borrow.Author.Rules.{rules}
 use Rattle.shape.proofs.sweep.Strip.with_sides.Goals as goal
 
 -- `Strip::with_sides` takes all four, at one line and at the other. Assumes nothing.
