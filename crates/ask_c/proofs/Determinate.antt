@@ -1,4 +1,4 @@
--- Any two answers that the contract of `runcedau_lent_ask` permits are equal, of a map that is held; and where the call is refused, whatever the table holds. Assumes nothing.
+-- Any two answers that the contract of `runcedau_ask` permits are equal, of a map that is held; and where the call is refused, whatever the table holds. Assumes nothing.
 use Prim.Native.Nat.{ℕ, ◌<◌}
 use mathlib.Core.Path.{◌≡◌, sym, ap, subst, ◌∙◌}
 use mathlib.Core.Bool.{true}

@@ -39,7 +39,7 @@ fn told(answer: Answer) -> Found
 // The first occupied cell that qualifies. `shape` is 0 for a point, 1 for a square, 2 for a circle, 3 for a sweep, and any other
 // number is refused with 8; `q` counts for a sweep only, `extent` not for a point.
 #[unsafe(no_mangle)]
-pub extern "C" fn runcedau_lent_ask(
+pub extern "C" fn runcedau_ask(
     map: Map,
     cells: &[u64],
     shape: u8,

@@ -1,4 +1,4 @@
-// The points and pairs of a map.
+// The points and pairs of a map under C names. Each function is the call of that name, with its contract.
 ghost use Rattle.answers.specs.PairLists.{AllPairs, AllPoints, FreePoints, OpenPairs};
 
 use answers::judge::Count;
@@ -8,7 +8,7 @@ use held::map::Map;
 
 // All points, their statuses, and their blockers.
 #[unsafe(no_mangle)]
-pub extern "C" fn runcedau_lent_all_points(
+pub extern "C" fn runcedau_all_points(
     map: Map,
     points: &[u64],
     statuses: &[u8],
@@ -25,7 +25,7 @@ pub extern "C" fn runcedau_lent_all_points(
 
 // The points that nothing blocks.
 #[unsafe(no_mangle)]
-pub extern "C" fn runcedau_lent_free_points(
+pub extern "C" fn runcedau_free_points(
     map: Map,
     points: &[u64],
     blockers: &[u64],
@@ -38,7 +38,7 @@ pub extern "C" fn runcedau_lent_free_points(
 
 // All pairs, lesser cell first, and their blockers.
 #[unsafe(no_mangle)]
-pub extern "C" fn runcedau_lent_all_pairs(
+pub extern "C" fn runcedau_all_pairs(
     map: Map,
     points: &[u64],
     pairs: &[u64],
@@ -54,7 +54,7 @@ pub extern "C" fn runcedau_lent_all_pairs(
 
 // The pairs that nothing blocks, nor either of their ends.
 #[unsafe(no_mangle)]
-pub extern "C" fn runcedau_lent_open_pairs(
+pub extern "C" fn runcedau_open_pairs(
     map: Map,
     points: &[u64],
     blockers: &[u64],

@@ -2,9 +2,9 @@ use borrow.Author.Rules.{rules}
 use mathlib.Core.Path.{subst}
 use Rattle.answers.specs.Asks.{AsksNumbered}
 use Rattle.question.specs.declared.numbered.Numbered.{Numbered}
-use Rattle.ask_c.proofs.runcedau_lent_ask.Goals as goal
+use Rattle.ask_c.proofs.runcedau_ask.Goals as goal
 
--- `runcedau_lent_ask`: what `ask_numbered` answers, as a struct. Assumes nothing.
+-- `runcedau_ask`: what `ask_numbered` answers, as a struct. Assumes nothing.
 pub returns : goal.returns
 returns c =
     let a = c.args in

@@ -1,4 +1,4 @@
-// The cells and corners of a map.
+// The cells and corners of a map under C names. Each function is the call of that name, with its contract.
 ghost use Rattle.answers.specs.CellLists.{CornerCells, IsOccupied, OccupiedCells};
 
 use answers::cells::{Told, corner_cells, is_occupied, occupied_cells};
@@ -8,7 +8,7 @@ use limits::cell::Cell;
 
 // Whether a cell is occupied.
 #[unsafe(no_mangle)]
-pub extern "C" fn runcedau_lent_is_occupied(map: Map, cells: &[u64], cell: Cell) -> Told
+pub extern "C" fn runcedau_is_occupied(map: Map, cells: &[u64], cell: Cell) -> Told
     ensures { IsOccupied map cells.now cell.x cell.y result }
 {
     is_occupied(map, cells, cell)
@@ -16,7 +16,7 @@ pub extern "C" fn runcedau_lent_is_occupied(map: Map, cells: &[u64], cell: Cell)
 
 // The occupied cells.
 #[unsafe(no_mangle)]
-pub extern "C" fn runcedau_lent_occupied_cells(map: Map, cells: &[u64], out: &mut [u64]) -> Count
+pub extern "C" fn runcedau_occupied_cells(map: Map, cells: &[u64], out: &mut [u64]) -> Count
     ensures { OccupiedCells map cells.now out.old out.new result }
 {
     occupied_cells(map, cells, out)
@@ -24,7 +24,7 @@ pub extern "C" fn runcedau_lent_occupied_cells(map: Map, cells: &[u64], out: &mu
 
 // The cells with a corner, and their statuses.
 #[unsafe(no_mangle)]
-pub extern "C" fn runcedau_lent_corner_cells(
+pub extern "C" fn runcedau_corner_cells(
     map: Map,
     cells: &[u64],
     out: &mut [u64],

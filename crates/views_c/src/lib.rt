@@ -1,4 +1,4 @@
-// What is seen from a cell, and its neighbours.
+// What is seen from a cell, and its neighbours, under C names. Each function is the call of that name, with its contract.
 ghost use Rattle.held.specs.Holds.{tables_of};
 ghost use Rattle.views.specs.Seen.{Beside, InSight};
 
@@ -10,12 +10,7 @@ use views::visibility_from::visibility_from;
 
 // The neighbours of a cell that can be reached.
 #[unsafe(no_mangle)]
-pub extern "C" fn runcedau_lent_neighbours(
-    map: Map,
-    cells: &[u64],
-    cell: Cell,
-    out: &mut [u64],
-) -> Count
+pub extern "C" fn runcedau_neighbours(map: Map, cells: &[u64], cell: Cell, out: &mut [u64]) -> Count
     ensures { Beside map cells.now out.old cell.x cell.y out.new result }
 {
     neighbours(map, cells, cell, out)
@@ -23,7 +18,7 @@ pub extern "C" fn runcedau_lent_neighbours(
 
 // The points in sight of a cell.
 #[unsafe(no_mangle)]
-pub extern "C" fn runcedau_lent_visibility(
+pub extern "C" fn runcedau_visibility(
     map: Map,
     cells: &[u64],
     points: &[u64],
