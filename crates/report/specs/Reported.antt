@@ -1,10 +1,10 @@
 -- The listing of a map in a lent buffer, as a call on the map (RULES 6.1): the refusal that is due, the map that is held, the output. Definitions only.
 use Rattle.std.specs.Prelude.{ℕ, ◌≡◌, List, [], ◌∷◌, length}
 use Rattle.answers.specs.Asking.{HoldsSome, Listing, Output, refuse_map}
+use Rattle.answers.specs.Walks.{table_needs}
 use Rattle.answers.specs.declared.judge.Count.{Count}
-use Rattle.held.specs.Pairs.{pair_places}
 use Rattle.held.specs.declared.map.Map.{Map}
-use Rattle.model.specs.Limits.{max_cells, max_points, need_listing}
+use Rattle.model.specs.Limits.{need_listing}
 use Rattle.model.specs.Listing.{listed}
 use Rattle.model.specs.Map as model
 use Rattle.model.specs.MapFile.{done}
@@ -12,12 +12,8 @@ use Rattle.model.specs.Refusal.{short}
 
 -- the map that the lent tables hold, and the buffer `out`, which became out'
 module _ (m : Map) (cells points statuses blockers pairs out : List ℕ) where
-  -- the lent lengths with their needs
-  abbrev pub map_lengths : List (ℕ × ℕ)
-  map_lengths = (length cells, max_cells) ∷ (length points, max_points) ∷ (length statuses, max_points) ∷ (length blockers, max_points) ∷ (length pairs, pair_places) ∷ (length out, need_listing) ∷ []
-
   abbrev pub map_due : ℕ
-  map_due = refuse_map (short map_lengths) m []
+  map_due = refuse_map (short (table_needs (length cells) (length points) (length statuses) (length blockers) (length pairs) ((length out, need_listing) ∷ []))) m []
 
   abbrev pub MapHeld : model.Map → Type 0
   MapHeld = HoldsSome m (λ t. (t.cells ≡ cells) × (t.points ≡ points) × (t.statuses ≡ statuses) × (t.blockers ≡ blockers) × (t.pairs ≡ pairs))
