@@ -71,7 +71,7 @@ impl ProvedMap {
 
     /// Opens the map again, empty, with its cell size and its radius.
     pub fn reopen(&mut self) -> u8 {
-        let opened = ffi::runcedau_lent_open(
+        let opened = ffi::runcedau_open(
             self.map.size,
             self.map.radius,
             &mut self.cells,
@@ -121,8 +121,7 @@ impl ProvedMap {
             Question::Circle(p, radius) => (2, p, p, *radius),
             Question::Sweep(p, q, width) => (3, p, q, *width),
         };
-        let found =
-            ffi::runcedau_lent_ask(self.map, &self.cells, shape, point(p), point(q), extent);
+        let found = ffi::runcedau_ask(self.map, &self.cells, shape, point(p), point(q), extent);
         if found.some {
             oracle::key(&Cell::new(found.cell.x, found.cell.y))
         } else {
@@ -139,7 +138,7 @@ impl ProvedMap {
     }
 
     pub fn change_cells(&mut self, batch: &[i64]) -> u8 {
-        let changed = ffi::runcedau_lent_change_cells(
+        let changed = ffi::runcedau_change_cells(
             self.map,
             &mut self.cells,
             &mut self.points,
@@ -160,7 +159,7 @@ impl ProvedMap {
     }
 
     pub fn change_radius(&mut self, wanted: f64) -> u8 {
-        let changed = ffi::runcedau_lent_change_radius(
+        let changed = ffi::runcedau_change_radius(
             self.map,
             &self.cells,
             &mut self.points,
@@ -177,12 +176,12 @@ impl ProvedMap {
 
     /// The keys at the front of `out`, where the call is not refused.
     pub fn neighbors<'a>(&self, of_cell: &Cell, out: &'a mut [u64; 64]) -> &'a [u64] {
-        let listed = ffi::runcedau_lent_neighbours(self.map, &self.cells, cell(of_cell), out);
+        let listed = ffi::runcedau_neighbours(self.map, &self.cells, cell(of_cell), out);
         &out[..listed.count]
     }
 
     pub fn calculate_visibility<'a>(&self, from: &Cell, out: &'a mut [u64; 64]) -> &'a [u64] {
-        let listed = ffi::runcedau_lent_visibility(
+        let listed = ffi::runcedau_visibility(
             self.map,
             &self.cells,
             &self.points,
@@ -196,26 +195,25 @@ impl ProvedMap {
     }
 
     pub fn is_occupied(&self, of_cell: &Cell) -> bool {
-        ffi::runcedau_lent_is_occupied(self.map, &self.cells, cell(of_cell)).yes
+        ffi::runcedau_is_occupied(self.map, &self.cells, cell(of_cell)).yes
     }
 
     /// Each list stands at the front of its places; returned is how many there are.
     pub fn occupied_cells(&self, lists: &mut Lists) -> usize {
-        ffi::runcedau_lent_occupied_cells(self.map, &self.cells, &mut lists.keys).count
+        ffi::runcedau_occupied_cells(self.map, &self.cells, &mut lists.keys).count
     }
 
     pub fn corner_cells(&self, lists: &mut Lists) -> usize {
-        ffi::runcedau_lent_corner_cells(self.map, &self.cells, &mut lists.keys, &mut lists.statuses)
+        ffi::runcedau_corner_cells(self.map, &self.cells, &mut lists.keys, &mut lists.statuses)
             .count
     }
 
     pub fn free_points(&self, lists: &mut Lists) -> usize {
-        ffi::runcedau_lent_free_points(self.map, &self.points, &self.blockers, &mut lists.keys)
-            .count
+        ffi::runcedau_free_points(self.map, &self.points, &self.blockers, &mut lists.keys).count
     }
 
     pub fn open_pairs(&self, lists: &mut Lists) -> usize {
-        ffi::runcedau_lent_open_pairs(
+        ffi::runcedau_open_pairs(
             self.map,
             &self.points,
             &self.blockers,

@@ -1,5 +1,5 @@
 /* Every call of the two headers in one form: slices, and what else is asked. For wrong_use.c. */
-#include <runcedau.h>
+#include <runcedau_floor.h>
 #include <string.h>
 
 typedef struct {
@@ -87,7 +87,7 @@ static answer of_found(runcedau_found found) {
 /* ---- over lent tables */
 
 CALL(lent_open) {
-    return of_outcome(runcedau_lent_open(a->map.size, a->map.radius, FIVE(0)));
+    return of_outcome(runcedau_open(a->map.size, a->map.radius, FIVE(0)));
 }
 
 CALL(lent_read) {
@@ -98,47 +98,47 @@ CALL(lent_read) {
 
 CALL(lent_change_cells) {
     runcedau_changed changed =
-        runcedau_lent_change_cells(a->map, FIVE(0), A(5), A(6), A(7), A(8), A(9));
+        runcedau_change_cells(a->map, FIVE(0), A(5), A(6), A(7), A(8), A(9));
     return (answer){changed.refusal, 0,
                     !changed.yes && changed.confirmed == 0 && changed.corners == 0 &&
                         zeros(changed.map)};
 }
 
 CALL(lent_change_radius) {
-    return of_outcome(runcedau_lent_change_radius(a->map, FIVE(0), a->radius));
+    return of_outcome(runcedau_change_radius(a->map, FIVE(0), a->radius));
 }
 
-CALL(lent_is_occupied) { return of_told(runcedau_lent_is_occupied(a->map, A(0), a->cell)); }
+CALL(lent_is_occupied) { return of_told(runcedau_is_occupied(a->map, A(0), a->cell)); }
 
 CALL(lent_ask) {
     return of_found(
-        runcedau_lent_ask(a->map, A(0), (uint8_t)a->shape, a->p, a->q, a->extent));
+        runcedau_ask(a->map, A(0), (uint8_t)a->shape, a->p, a->q, a->extent));
 }
 
-CALL(lent_occupied_cells) { return of_count(runcedau_lent_occupied_cells(a->map, A(0), A(1))); }
+CALL(lent_occupied_cells) { return of_count(runcedau_occupied_cells(a->map, A(0), A(1))); }
 
-CALL(lent_corner_cells) { return of_count(runcedau_lent_corner_cells(a->map, A(0), A(1), A(2))); }
+CALL(lent_corner_cells) { return of_count(runcedau_corner_cells(a->map, A(0), A(1), A(2))); }
 
 CALL(lent_all_points) {
-    return of_count(runcedau_lent_all_points(a->map, A(0), A(1), A(2), A(3), A(4), A(5)));
+    return of_count(runcedau_all_points(a->map, A(0), A(1), A(2), A(3), A(4), A(5)));
 }
 
-CALL(lent_free_points) { return of_count(runcedau_lent_free_points(a->map, A(0), A(1), A(2))); }
+CALL(lent_free_points) { return of_count(runcedau_free_points(a->map, A(0), A(1), A(2))); }
 
 CALL(lent_all_pairs) {
-    return of_count(runcedau_lent_all_pairs(a->map, A(0), A(1), A(2), A(3), A(4)));
+    return of_count(runcedau_all_pairs(a->map, A(0), A(1), A(2), A(3), A(4)));
 }
 
 CALL(lent_open_pairs) {
-    return of_count(runcedau_lent_open_pairs(a->map, A(0), A(1), A(2), A(3), A(4)));
+    return of_count(runcedau_open_pairs(a->map, A(0), A(1), A(2), A(3), A(4)));
 }
 
 CALL(lent_visibility) {
-    return of_count(runcedau_lent_visibility(a->map, FIVE(0), a->cell, A(5)));
+    return of_count(runcedau_visibility(a->map, FIVE(0), a->cell, A(5)));
 }
 
 CALL(lent_neighbours) {
-    return of_count(runcedau_lent_neighbours(a->map, A(0), a->cell, A(1)));
+    return of_count(runcedau_neighbours(a->map, A(0), a->cell, A(1)));
 }
 
 CALL(lent_list) { return of_count(runcedau_lent_list(a->map, FIVE(0), A(5))); }
@@ -146,73 +146,73 @@ CALL(lent_list) { return of_count(runcedau_lent_list(a->map, FIVE(0), A(5))); }
 /* ---- over a floor: the first slice; the room of all lists is that of the first list */
 
 CALL(floor_begin) {
-    return (answer){runcedau_begin(s[0].at, a->map.size, a->map.radius), 0, true};
+    return (answer){runcedau_floor_begin(s[0].at, a->map.size, a->map.radius), 0, true};
 }
 
 CALL(floor_read) {
     (void)a;
-    return (answer){runcedau_read(s[0].at, A(1)).refusal, 0, true};
+    return (answer){runcedau_floor_read(s[0].at, A(1)).refusal, 0, true};
 }
 
 CALL(floor_apply) {
     (void)a;
-    return (answer){runcedau_apply(s[0].at, A(1), s[2].at), 0, true};
+    return (answer){runcedau_floor_apply(s[0].at, A(1), s[2].at), 0, true};
 }
 
 CALL(floor_apply_untold) {
     (void)a;
-    return (answer){runcedau_apply(s[0].at, A(1), NULL), 0, true};
+    return (answer){runcedau_floor_apply(s[0].at, A(1), NULL), 0, true};
 }
 
 CALL(floor_change_radius) {
-    return (answer){runcedau_change_radius(s[0].at, a->radius), 0, true};
+    return (answer){runcedau_floor_change_radius(s[0].at, a->radius), 0, true};
 }
 
-CALL(floor_is_occupied) { return of_told(runcedau_is_occupied(s[0].at, a->cell)); }
+CALL(floor_is_occupied) { return of_told(runcedau_floor_is_occupied(s[0].at, a->cell)); }
 
 CALL(floor_ask) {
     return of_found(
-        runcedau_ask(s[0].at, (runcedau_shape)a->shape, a->p, a->q, a->extent));
+        runcedau_floor_ask(s[0].at, (runcedau_shape)a->shape, a->p, a->q, a->extent));
 }
 
 CALL(floor_occupied_cells) {
     (void)a;
-    return of_count(runcedau_occupied_cells(s[0].at, A(1)));
+    return of_count(runcedau_floor_occupied_cells(s[0].at, A(1)));
 }
 
 CALL(floor_corner_cells) {
     (void)a;
-    return of_count(runcedau_corner_cells(s[0].at, s[1].at, s[2].at, s[1].count));
+    return of_count(runcedau_floor_corner_cells(s[0].at, s[1].at, s[2].at, s[1].count));
 }
 
 CALL(floor_all_points) {
     (void)a;
     return of_count(
-        runcedau_all_points(s[0].at, s[1].at, s[2].at, s[3].at, s[1].count));
+        runcedau_floor_all_points(s[0].at, s[1].at, s[2].at, s[3].at, s[1].count));
 }
 
 CALL(floor_free_points) {
     (void)a;
-    return of_count(runcedau_free_points(s[0].at, A(1)));
+    return of_count(runcedau_floor_free_points(s[0].at, A(1)));
 }
 
 CALL(floor_all_pairs) {
     (void)a;
-    return of_count(runcedau_all_pairs(s[0].at, s[1].at, s[2].at, s[3].at, s[1].count));
+    return of_count(runcedau_floor_all_pairs(s[0].at, s[1].at, s[2].at, s[3].at, s[1].count));
 }
 
 CALL(floor_open_pairs) {
     (void)a;
-    return of_count(runcedau_open_pairs(s[0].at, s[1].at, s[2].at, s[1].count));
+    return of_count(runcedau_floor_open_pairs(s[0].at, s[1].at, s[2].at, s[1].count));
 }
 
-CALL(floor_visibility) { return of_count(runcedau_visibility(s[0].at, a->cell, A(1))); }
+CALL(floor_visibility) { return of_count(runcedau_floor_visibility(s[0].at, a->cell, A(1))); }
 
-CALL(floor_neighbours) { return of_count(runcedau_neighbours(s[0].at, a->cell, A(1))); }
+CALL(floor_neighbours) { return of_count(runcedau_floor_neighbours(s[0].at, a->cell, A(1))); }
 
 CALL(floor_list) {
     (void)a;
-    return of_count(runcedau_list(s[0].at, A(1)));
+    return of_count(runcedau_floor_list(s[0].at, A(1)));
 }
 
 CALL(list_file) {

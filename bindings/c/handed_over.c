@@ -1,9 +1,10 @@
-/* What the functions of runcedau.h hand over to the library. It is linked with the functions here
- * in the library's place: they note what they are handed, and answer `answered` and `refusal`. */
+/* What the functions of runcedau_floor.h hand over to the library. It is linked with the functions
+ * here in the library's place: they note what they are handed, and answer `answered` and
+ * `refusal`. */
 #include <stdio.h>
 #include <string.h>
 
-#include <runcedau.h>
+#include <runcedau_floor.h>
 
 typedef struct {
     const void *at;
@@ -54,7 +55,7 @@ static runcedau_count counted(void) {
 #define HEAR(name) hear_slice(name, name##_len)
 #define HEAR_TABLES HEAR(cells), HEAR(points), HEAR(statuses), HEAR(blockers), HEAR(pairs)
 
-runcedau_outcome runcedau_lent_open(double size, double radius, TABLES) {
+runcedau_outcome runcedau_open(double size, double radius, TABLES) {
     const runcedau_outcome outcome = {refusal, answered};
     hear("open", handed);
     heard.numbers[0] = size;
@@ -70,9 +71,9 @@ runcedau_opened runcedau_lent_read(LENT(const uint8_t, bytes), TABLES) {
     return opened;
 }
 
-runcedau_changed runcedau_lent_change_cells(runcedau_map map, TABLES, LENT(const int64_t, batch),
-                                            LENT(uint64_t, confirmed), LENT(uint8_t, full),
-                                            LENT(uint64_t, corners), LENT(uint8_t, altered)) {
+runcedau_changed runcedau_change_cells(runcedau_map map, TABLES, LENT(const int64_t, batch),
+                                       LENT(uint64_t, confirmed), LENT(uint8_t, full),
+                                       LENT(uint64_t, corners), LENT(uint8_t, altered)) {
     const runcedau_changed changed = {refusal, true, 21, 22, answered};
     hear("change_cells", map);
     HEAR_TABLES, HEAR(confirmed), HEAR(full), HEAR(corners), HEAR(altered);
@@ -82,10 +83,10 @@ runcedau_changed runcedau_lent_change_cells(runcedau_map map, TABLES, LENT(const
     return changed;
 }
 
-runcedau_outcome runcedau_lent_change_radius(runcedau_map map, LENT(const uint64_t, cells),
-                                             LENT(uint64_t, points), LENT(uint8_t, statuses),
-                                             LENT(uint64_t, blockers), LENT(uint64_t, pairs),
-                                             double radius) {
+runcedau_outcome runcedau_change_radius(runcedau_map map, LENT(const uint64_t, cells),
+                                        LENT(uint64_t, points), LENT(uint8_t, statuses),
+                                        LENT(uint64_t, blockers), LENT(uint64_t, pairs),
+                                        double radius) {
     const runcedau_outcome outcome = {refusal, answered};
     hear("change_radius", map);
     heard.numbers[0] = radius;
@@ -93,8 +94,8 @@ runcedau_outcome runcedau_lent_change_radius(runcedau_map map, LENT(const uint64
     return outcome;
 }
 
-runcedau_told runcedau_lent_is_occupied(runcedau_map map, LENT(const uint64_t, cells),
-                                        runcedau_cell cell) {
+runcedau_told runcedau_is_occupied(runcedau_map map, LENT(const uint64_t, cells),
+                                   runcedau_cell cell) {
     const runcedau_told told = {refusal, true};
     hear("is_occupied", map);
     heard.cell = cell;
@@ -102,8 +103,8 @@ runcedau_told runcedau_lent_is_occupied(runcedau_map map, LENT(const uint64_t, c
     return told;
 }
 
-runcedau_found runcedau_lent_ask(runcedau_map map, LENT(const uint64_t, cells), uint8_t shape,
-                                 runcedau_point p, runcedau_point q, double extent) {
+runcedau_found runcedau_ask(runcedau_map map, LENT(const uint64_t, cells), uint8_t shape,
+                            runcedau_point p, runcedau_point q, double extent) {
     const runcedau_found found = {refusal, true, {31, 32}};
     const double numbers[] = {p.x, p.y, q.x, q.y, extent};
     hear("ask", map);
@@ -113,63 +114,63 @@ runcedau_found runcedau_lent_ask(runcedau_map map, LENT(const uint64_t, cells), 
     return found;
 }
 
-runcedau_count runcedau_lent_occupied_cells(runcedau_map map, LENT(const uint64_t, cells),
-                                            LENT(uint64_t, out)) {
+runcedau_count runcedau_occupied_cells(runcedau_map map, LENT(const uint64_t, cells),
+                                       LENT(uint64_t, out)) {
     hear("occupied_cells", map);
     HEAR(cells), HEAR(out);
     return counted();
 }
 
-runcedau_count runcedau_lent_corner_cells(runcedau_map map, LENT(const uint64_t, cells),
-                                          LENT(uint64_t, out), LENT(uint8_t, statuses)) {
+runcedau_count runcedau_corner_cells(runcedau_map map, LENT(const uint64_t, cells),
+                                     LENT(uint64_t, out), LENT(uint8_t, statuses)) {
     hear("corner_cells", map);
     HEAR(cells), HEAR(out), HEAR(statuses);
     return counted();
 }
 
-runcedau_count runcedau_lent_all_points(runcedau_map map, LENT(const uint64_t, points),
-                                        LENT(const uint8_t, statuses),
-                                        LENT(const uint64_t, blockers), LENT(uint64_t, out),
-                                        LENT(uint8_t, bits), LENT(uint64_t, blocks)) {
+runcedau_count runcedau_all_points(runcedau_map map, LENT(const uint64_t, points),
+                                   LENT(const uint8_t, statuses),
+                                   LENT(const uint64_t, blockers), LENT(uint64_t, out),
+                                   LENT(uint8_t, bits), LENT(uint64_t, blocks)) {
     hear("all_points", map);
     HEAR(points), HEAR(statuses), HEAR(blockers), HEAR(out), HEAR(bits), HEAR(blocks);
     return counted();
 }
 
-runcedau_count runcedau_lent_free_points(runcedau_map map, LENT(const uint64_t, points),
-                                         LENT(const uint64_t, blockers), LENT(uint64_t, out)) {
+runcedau_count runcedau_free_points(runcedau_map map, LENT(const uint64_t, points),
+                                    LENT(const uint64_t, blockers), LENT(uint64_t, out)) {
     hear("free_points", map);
     HEAR(points), HEAR(blockers), HEAR(out);
     return counted();
 }
 
-runcedau_count runcedau_lent_all_pairs(runcedau_map map, LENT(const uint64_t, points),
-                                       LENT(const uint64_t, pairs), LENT(uint64_t, lesser),
-                                       LENT(uint64_t, greater), LENT(uint64_t, blocks)) {
+runcedau_count runcedau_all_pairs(runcedau_map map, LENT(const uint64_t, points),
+                                  LENT(const uint64_t, pairs), LENT(uint64_t, lesser),
+                                  LENT(uint64_t, greater), LENT(uint64_t, blocks)) {
     hear("all_pairs", map);
     HEAR(points), HEAR(pairs), HEAR(lesser), HEAR(greater), HEAR(blocks);
     return counted();
 }
 
-runcedau_count runcedau_lent_open_pairs(runcedau_map map, LENT(const uint64_t, points),
-                                        LENT(const uint64_t, blockers),
-                                        LENT(const uint64_t, pairs), LENT(uint64_t, lesser),
-                                        LENT(uint64_t, greater)) {
+runcedau_count runcedau_open_pairs(runcedau_map map, LENT(const uint64_t, points),
+                                   LENT(const uint64_t, blockers),
+                                   LENT(const uint64_t, pairs), LENT(uint64_t, lesser),
+                                   LENT(uint64_t, greater)) {
     hear("open_pairs", map);
     HEAR(points), HEAR(blockers), HEAR(pairs), HEAR(lesser), HEAR(greater);
     return counted();
 }
 
-runcedau_count runcedau_lent_visibility(runcedau_map map, READ_TABLES, runcedau_cell cell,
-                                        LENT(uint64_t, out)) {
+runcedau_count runcedau_visibility(runcedau_map map, READ_TABLES, runcedau_cell cell,
+                                   LENT(uint64_t, out)) {
     hear("visibility", map);
     heard.cell = cell;
     HEAR_TABLES, HEAR(out);
     return counted();
 }
 
-runcedau_count runcedau_lent_neighbours(runcedau_map map, LENT(const uint64_t, cells),
-                                        runcedau_cell cell, LENT(uint64_t, out)) {
+runcedau_count runcedau_neighbours(runcedau_map map, LENT(const uint64_t, cells),
+                                   runcedau_cell cell, LENT(uint64_t, out)) {
     hear("neighbours", map);
     heard.cell = cell;
     HEAR(cells), HEAR(out);
@@ -227,24 +228,24 @@ static void expect_kept(const char *call, uint8_t returned) {
 }
 
 static void try_altering(void) {
-    expect_kept("begin", runcedau_begin(&hall, 1.5, 2.5));
+    expect_kept("begin", runcedau_floor_begin(&hall, 1.5, 2.5));
     EXPECT("open", ALL_FIVE);
     check("begin's numbers", heard.numbers[0] == 1.5 && heard.numbers[1] == 2.5);
-    runcedau_reading reading = runcedau_read(&hall, bytes, 5);
+    runcedau_reading reading = runcedau_floor_read(&hall, bytes, 5);
     expect_kept("read", reading.refusal);
     EXPECT("read", {bytes, 5}, ALL_FIVE);
     check("read's field", reading.field == 8);
-    check("no file", runcedau_read(&hall, NULL, 5).refusal == refusal);
+    check("no file", runcedau_floor_read(&hall, NULL, 5).refusal == refusal);
     check("no file", heard.slices[0].at && heard.slices[0].count == 0);
     hall.map = handed;
-    expect_kept("change_radius", runcedau_change_radius(&hall, 2.5));
+    expect_kept("change_radius", runcedau_floor_change_radius(&hall, 2.5));
     EXPECT("change_radius", ALL_FIVE);
     check("change_radius's number", heard.numbers[0] == 2.5);
 }
 
 static void try_apply(const runcedau_entry *entries, size_t count, size_t numbers, double last) {
     changes_before = changes;
-    expect_kept("apply", runcedau_apply(&hall, entries, count, &changes));
+    expect_kept("apply", runcedau_floor_apply(&hall, entries, count, &changes));
     EXPECT("change_cells", ALL_FIVE, {changes.confirmed, 256}, {changes.occupied, 256},
            {changes.corners, 2304}, {changes.statuses, 2304});
     check("the batch", heard.numbers[0] == (double)numbers && heard.numbers[1] == last);
@@ -253,7 +254,7 @@ static void try_apply(const runcedau_entry *entries, size_t count, size_t number
         changes_before.corner_count = 22;
     }
     check("the changes", memcmp(&changes, &changes_before, sizeof changes) == 0);
-    expect_kept("apply without changes", runcedau_apply(&hall, entries, count, NULL));
+    expect_kept("apply without changes", runcedau_floor_apply(&hall, entries, count, NULL));
     check("the batch without changes", heard.numbers[0] == (double)numbers);
     const slice *lists = heard.slices + 5;
     check("the lists without changes", lists[0].count == 256 && lists[1].count == 256 &&
@@ -282,14 +283,14 @@ static void try_batches(void) {
 static void try_questions(void) {
     const runcedau_point p = {1.0, 2.0}, q = {3.0, 4.0};
     const double numbers[] = {1.0, 2.0, 3.0, 4.0, 5.0};
-    runcedau_told told = runcedau_is_occupied(&hall, cell);
+    runcedau_told told = runcedau_floor_is_occupied(&hall, cell);
     check("is_occupied's answer", told.refusal == refusal && told.yes);
     EXPECT("is_occupied", {hall.cells, 1024});
     check("is_occupied's cell", memcmp(&heard.cell, &cell, sizeof cell) == 0);
     check("the shapes' numbers", RUNCEDAU_SHAPE_POINT == 0 && RUNCEDAU_SHAPE_SQUARE == 1 &&
                                      RUNCEDAU_SHAPE_CIRCLE == 2 && RUNCEDAU_SHAPE_SWEEP == 3);
     for (int shape = -1000; shape < 1000; shape++) {
-        runcedau_found found = runcedau_ask(&hall, (runcedau_shape)shape, p, q, 5.0);
+        runcedau_found found = runcedau_floor_ask(&hall, (runcedau_shape)shape, p, q, 5.0);
         check("ask's answer", found.refusal == refusal && found.some && found.cell.x == 31 &&
                                   found.cell.y == 32);
         EXPECT("ask", {hall.cells, 1024});
@@ -299,30 +300,30 @@ static void try_questions(void) {
 }
 
 static void try_lists_of_cells(size_t room) {
-    expect_count("occupied_cells", runcedau_occupied_cells(&hall, list1, room));
+    expect_count("occupied_cells", runcedau_floor_occupied_cells(&hall, list1, room));
     EXPECT("occupied_cells", {hall.cells, 1024}, {list1, room});
-    expect_count("corner_cells", runcedau_corner_cells(&hall, list1, bytes, room));
+    expect_count("corner_cells", runcedau_floor_corner_cells(&hall, list1, bytes, room));
     EXPECT("corner_cells", {hall.cells, 1024}, {list1, room}, {bytes, room});
-    expect_count("visibility", runcedau_visibility(&hall, cell, list1, room));
+    expect_count("visibility", runcedau_floor_visibility(&hall, cell, list1, room));
     EXPECT("visibility", ALL_FIVE, {list1, room});
     check("visibility's cell", memcmp(&heard.cell, &cell, sizeof cell) == 0);
-    expect_count("neighbours", runcedau_neighbours(&hall, cell, list1, room));
+    expect_count("neighbours", runcedau_floor_neighbours(&hall, cell, list1, room));
     EXPECT("neighbours", {hall.cells, 1024}, {list1, room});
     check("neighbours' cell", memcmp(&heard.cell, &cell, sizeof cell) == 0);
-    expect_count("list", runcedau_list(&hall, bytes, room));
+    expect_count("list", runcedau_floor_list(&hall, bytes, room));
     EXPECT("list", ALL_FIVE, {bytes, room});
 }
 
 static void try_lists_of_points(size_t room) {
-    expect_count("all_points", runcedau_all_points(&hall, list1, bytes, list2, room));
+    expect_count("all_points", runcedau_floor_all_points(&hall, list1, bytes, list2, room));
     EXPECT("all_points", {hall.points, 64}, {hall.statuses, 64}, {hall.blockers, 64},
            {list1, room}, {bytes, room}, {list2, room});
-    expect_count("free_points", runcedau_free_points(&hall, list1, room));
+    expect_count("free_points", runcedau_floor_free_points(&hall, list1, room));
     EXPECT("free_points", {hall.points, 64}, {hall.blockers, 64}, {list1, room});
-    expect_count("all_pairs", runcedau_all_pairs(&hall, list1, list2, list3, room));
+    expect_count("all_pairs", runcedau_floor_all_pairs(&hall, list1, list2, list3, room));
     EXPECT("all_pairs", {hall.points, 64}, {hall.pairs, 4096}, {list1, room}, {list2, room},
            {list3, room});
-    expect_count("open_pairs", runcedau_open_pairs(&hall, list1, list2, room));
+    expect_count("open_pairs", runcedau_floor_open_pairs(&hall, list1, list2, room));
     EXPECT("open_pairs", {hall.points, 64}, {hall.blockers, 64}, {hall.pairs, 4096},
            {list1, room}, {list2, room});
 }
@@ -334,21 +335,21 @@ static void expect_short(runcedau_count count) {
 
 static void try_null_lists(void) {
     hear(NULL, handed);
-    expect_short(runcedau_occupied_cells(&hall, NULL, 9));
-    expect_short(runcedau_corner_cells(&hall, NULL, bytes, 9));
-    expect_short(runcedau_corner_cells(&hall, list1, NULL, 9));
-    expect_short(runcedau_all_points(&hall, NULL, bytes, list2, 9));
-    expect_short(runcedau_all_points(&hall, list1, NULL, list2, 9));
-    expect_short(runcedau_all_points(&hall, list1, bytes, NULL, 9));
-    expect_short(runcedau_free_points(&hall, NULL, 9));
-    expect_short(runcedau_all_pairs(&hall, NULL, list2, list3, 9));
-    expect_short(runcedau_all_pairs(&hall, list1, NULL, list3, 9));
-    expect_short(runcedau_all_pairs(&hall, list1, list2, NULL, 9));
-    expect_short(runcedau_open_pairs(&hall, NULL, list2, 9));
-    expect_short(runcedau_open_pairs(&hall, list1, NULL, 9));
-    expect_short(runcedau_visibility(&hall, cell, NULL, 9));
-    expect_short(runcedau_neighbours(&hall, cell, NULL, 9));
-    expect_short(runcedau_list(&hall, NULL, 9));
+    expect_short(runcedau_floor_occupied_cells(&hall, NULL, 9));
+    expect_short(runcedau_floor_corner_cells(&hall, NULL, bytes, 9));
+    expect_short(runcedau_floor_corner_cells(&hall, list1, NULL, 9));
+    expect_short(runcedau_floor_all_points(&hall, NULL, bytes, list2, 9));
+    expect_short(runcedau_floor_all_points(&hall, list1, NULL, list2, 9));
+    expect_short(runcedau_floor_all_points(&hall, list1, bytes, NULL, 9));
+    expect_short(runcedau_floor_free_points(&hall, NULL, 9));
+    expect_short(runcedau_floor_all_pairs(&hall, NULL, list2, list3, 9));
+    expect_short(runcedau_floor_all_pairs(&hall, list1, NULL, list3, 9));
+    expect_short(runcedau_floor_all_pairs(&hall, list1, list2, NULL, 9));
+    expect_short(runcedau_floor_open_pairs(&hall, NULL, list2, 9));
+    expect_short(runcedau_floor_open_pairs(&hall, list1, NULL, 9));
+    expect_short(runcedau_floor_visibility(&hall, cell, NULL, 9));
+    expect_short(runcedau_floor_neighbours(&hall, cell, NULL, 9));
+    expect_short(runcedau_floor_list(&hall, NULL, 9));
 }
 
 int main(void) {

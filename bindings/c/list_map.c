@@ -6,7 +6,7 @@
 #include <inttypes.h>
 #include <stdio.h>
 
-#include <runcedau.h>
+#include <runcedau_floor.h>
 
 static uint8_t bytes[1 << 20], text[RUNCEDAU_LISTING];
 static runcedau_floor hall;
@@ -23,12 +23,12 @@ int main(int count, char **names) {
         return 1;
     }
     fclose(file);
-    runcedau_reading reading = runcedau_read(&hall, bytes, length);
+    runcedau_reading reading = runcedau_floor_read(&hall, bytes, length);
     if (reading.refusal != 0) {
         printf("refused %d at %" PRIu64 "\n", reading.refusal, reading.field);
         return 0;
     }
-    runcedau_count listed = runcedau_list(&hall, text, sizeof text);
+    runcedau_count listed = runcedau_floor_list(&hall, text, sizeof text);
     if (listed.refusal != 0) {
         fprintf(stderr, "list_map: %s\n", runcedau_why(listed.refusal));
         return 1;

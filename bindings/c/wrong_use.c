@@ -338,7 +338,7 @@ static void try_full_floors(void) {
     begin_batch();
     for (int64_t i = 0; i < 16; i++)
         add(10 * i, 0, 1);
-    accept(runcedau_apply(&posts, entries, entry_count, NULL));
+    accept(runcedau_floor_apply(&posts, entries, entry_count, NULL));
     a = right(&posts);
     begin_batch();
     add(1000, 0, 1);
@@ -456,7 +456,7 @@ static void try_stale(void) {
     begin_batch();
     for (int64_t i = 0; i < 8; i++)
         add(4, i, 0);
-    accept(runcedau_apply(&now, entries, entry_count, NULL));
+    accept(runcedau_floor_apply(&now, entries, entry_count, NULL));
     const runcedau_map before_freeing = aisle.map, before_filling = empty_hall.map;
     asked a = right(&now);
     a.map = before_freeing;

@@ -1,4 +1,5 @@
-// The aisle of ../c/aisle.c in C++: entries in a vector, a refusal as an exception, a copy as undo.
+// The aisle of ../c/aisle_floor.c in C++: entries in a vector, a refusal as an exception, a copy as
+// undo.
 //
 //     g++ -I bindings bindings/cpp/aisle.cpp target/staticlib/libruncedau.a
 #include <cstdint>
@@ -6,7 +7,7 @@
 #include <stdexcept>
 #include <vector>
 
-#include <runcedau.h>
+#include <runcedau_floor.h>
 
 namespace {
 
@@ -16,12 +17,12 @@ void check(std::uint8_t refusal) {
 }
 
 void apply(runcedau_floor &hall, const std::vector<runcedau_entry> &entries) {
-    check(runcedau_apply(&hall, entries.data(), entries.size(), nullptr));
+    check(runcedau_floor_apply(&hall, entries.data(), entries.size(), nullptr));
 }
 
 std::vector<runcedau_cell> seen_from(const runcedau_floor &hall, runcedau_cell cell) {
     std::vector<std::uint64_t> keys(RUNCEDAU_POINTS);
-    const runcedau_count seen = runcedau_visibility(&hall, cell, keys.data(), keys.size());
+    const runcedau_count seen = runcedau_floor_visibility(&hall, cell, keys.data(), keys.size());
     check(seen.refusal);
     keys.resize(seen.count);
     std::vector<runcedau_cell> cells;
@@ -39,7 +40,7 @@ void tell(const char *what, const runcedau_floor &hall) {
 
 void run() {
     runcedau_floor hall{};
-    check(runcedau_begin(&hall, 256.0, 128.0));
+    check(runcedau_floor_begin(&hall, 256.0, 128.0));
     std::vector<runcedau_entry> racks;
     for (const std::int64_t x : {0, 4})
         for (std::int64_t y = 0; y < 8; y++)

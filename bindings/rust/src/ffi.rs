@@ -142,7 +142,7 @@ macro_rules! library {
 
 library! {
     /// Opens a map on which every cell is free, and writes all five tables. Refuses with 9, 1, 2.
-    fn runcedau_lent_open(size: plain f64, radius: plain f64, cells: write u64, points: write u64,
+    fn runcedau_open(size: plain f64, radius: plain f64, cells: write u64, points: write u64,
         statuses: write u8, blockers: write u64, pairs: write u64) -> Outcome;
     /// Reads a map file, and writes all five tables. Refuses with 9, and as RULES 5.2 has it.
     fn runcedau_lent_read(bytes: read u8, cells: write u64, points: write u64, statuses: write u8,
@@ -150,42 +150,42 @@ library! {
     /// Applies a batch, three numbers an entry: x, y, and 0 for free or any other for occupied;
     /// cells ascending by x, then y. Refuses with 9, 1 to 7, a batch that is no whole entries
     /// with 4.
-    fn runcedau_lent_change_cells(map: plain Map, cells: write u64, points: write u64,
+    fn runcedau_change_cells(map: plain Map, cells: write u64, points: write u64,
         statuses: write u8, blockers: write u64, pairs: write u64, batch: read i64,
         confirmed: write u64, full: write u8, corners: write u64, altered: write u8) -> Changed;
     /// Sets the radius, and finds points, pairs and blockers anew. Refuses with 9, 1, 2, 6, 7.
-    fn runcedau_lent_change_radius(map: plain Map, cells: read u64, points: write u64,
+    fn runcedau_change_radius(map: plain Map, cells: read u64, points: write u64,
         statuses: write u8, blockers: write u64, pairs: write u64, radius: plain f64) -> Outcome;
     /// Whether a cell is occupied. Refuses with 9, 1, 2, 6, 7.
-    fn runcedau_lent_is_occupied(map: plain Map, cells: read u64, cell: plain Cell) -> Told;
+    fn runcedau_is_occupied(map: plain Map, cells: read u64, cell: plain Cell) -> Told;
     /// The first occupied cell that a shape takes: 0 a point p, 1 a square about p of width
     /// `extent`, 2 a circle about p of radius `extent`, 3 a sweep from p to q of width `extent`.
     /// Refuses with 9, 1, 2, 6, 7, 8.
-    fn runcedau_lent_ask(map: plain Map, cells: read u64, shape: plain u8, p: plain Point,
+    fn runcedau_ask(map: plain Map, cells: read u64, shape: plain u8, p: plain Point,
         q: plain Point, extent: plain f64) -> Found;
     /// The occupied cells. Refuses with 9, 1, 2, 6, 7, as all lists do.
-    fn runcedau_lent_occupied_cells(map: plain Map, cells: read u64, out: write u64) -> Count;
+    fn runcedau_occupied_cells(map: plain Map, cells: read u64, out: write u64) -> Count;
     /// The occupied cells that have a corner, and their statuses.
-    fn runcedau_lent_corner_cells(map: plain Map, cells: read u64, out: write u64,
+    fn runcedau_corner_cells(map: plain Map, cells: read u64, out: write u64,
         statuses: write u8) -> Count;
     /// The points, their statuses and blockers.
-    fn runcedau_lent_all_points(map: plain Map, points: read u64, statuses: read u8,
+    fn runcedau_all_points(map: plain Map, points: read u64, statuses: read u8,
         blockers: read u64, out: write u64, bits: write u8, blocks: write u64) -> Count;
     /// The points without blocker.
-    fn runcedau_lent_free_points(map: plain Map, points: read u64, blockers: read u64,
+    fn runcedau_free_points(map: plain Map, points: read u64, blockers: read u64,
         out: write u64) -> Count;
     /// The pairs and their blockers.
-    fn runcedau_lent_all_pairs(map: plain Map, points: read u64, pairs: read u64,
+    fn runcedau_all_pairs(map: plain Map, points: read u64, pairs: read u64,
         lesser: write u64, greater: write u64, blocks: write u64) -> Count;
     /// The pairs that have no blocker, nor have their points.
-    fn runcedau_lent_open_pairs(map: plain Map, points: read u64, blockers: read u64,
+    fn runcedau_open_pairs(map: plain Map, points: read u64, blockers: read u64,
         pairs: read u64, lesser: write u64, greater: write u64) -> Count;
     /// The points in sight of a cell. Refuses with 5 too.
-    fn runcedau_lent_visibility(map: plain Map, cells: read u64, points: read u64,
+    fn runcedau_visibility(map: plain Map, cells: read u64, points: read u64,
         statuses: read u8, blockers: read u64, pairs: read u64, cell: plain Cell,
         out: write u64) -> Count;
     /// The cells beside a cell that can be reached. Refuses with 5 too.
-    fn runcedau_lent_neighbours(map: plain Map, cells: read u64, cell: plain Cell,
+    fn runcedau_neighbours(map: plain Map, cells: read u64, cell: plain Cell,
         out: write u64) -> Count;
     /// The listing of a map (RULES 6.1), 166,656 bytes at most.
     fn runcedau_lent_list(map: plain Map, cells: read u64, points: read u64, statuses: read u8,

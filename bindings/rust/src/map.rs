@@ -75,7 +75,7 @@ impl Map {
     pub fn new(cell_size: f64, agent_radius: f64) -> Result<Self, Refusal> {
         let mut tables = Tables::zeros();
         let t = &mut *tables;
-        let opened = ffi::runcedau_lent_open(
+        let opened = ffi::runcedau_open(
             cell_size,
             agent_radius,
             &mut t.cells,
@@ -120,7 +120,7 @@ impl Map {
         let (mut confirmed, mut full) = ([0; CHANGES], [0; CHANGES]);
         let (mut corners, mut altered) = ([0; CORNERS], [0; CORNERS]);
         let t = &mut *self.tables;
-        let changed = ffi::runcedau_lent_change_cells(
+        let changed = ffi::runcedau_change_cells(
             self.map,
             &mut t.cells,
             &mut t.points,
@@ -151,7 +151,7 @@ impl Map {
     /// [`Refusal::TooManyPoints`] if there would be more than 64 points. The map is as it was then.
     pub fn change_agent_radius(&mut self, radius: f64) -> Result<(), Refusal> {
         let t = &mut *self.tables;
-        let changed = ffi::runcedau_lent_change_radius(
+        let changed = ffi::runcedau_change_radius(
             self.map,
             &t.cells,
             &mut t.points,
@@ -207,13 +207,13 @@ pub(crate) fn count_of(listed: ffi::Count) -> usize {
 impl Map {
     /// Whether a cell is occupied; of any two numbers.
     pub fn is_occupied(&self, cell: Cell) -> bool {
-        let told = ffi::runcedau_lent_is_occupied(self.map, &self.tables.cells, cell);
+        let told = ffi::runcedau_is_occupied(self.map, &self.tables.cells, cell);
         sure(told.refusal);
         told.yes
     }
 
     fn ask(&self, shape: Shape, p: Point, q: Point, extent: f64) -> Result<Option<Cell>, Refusal> {
-        let found = ffi::runcedau_lent_ask(self.map, &self.tables.cells, shape as u8, p, q, extent);
+        let found = ffi::runcedau_ask(self.map, &self.tables.cells, shape as u8, p, q, extent);
         Refusal::check(found.refusal)?;
         Ok(found.some.then_some(found.cell))
     }
@@ -264,7 +264,7 @@ impl Map {
     /// All occupied cells, ascending.
     pub fn occupied_cells(&self) -> Vec<Cell> {
         let mut out = [0; CELLS];
-        let listed = ffi::runcedau_lent_occupied_cells(self.map, &self.tables.cells, &mut out);
+        let listed = ffi::runcedau_occupied_cells(self.map, &self.tables.cells, &mut out);
         cells_of(&out[..count_of(listed)])
     }
 
@@ -273,7 +273,7 @@ impl Map {
     pub fn corners(&self) -> Vec<(Cell, u8)> {
         let (mut out, mut statuses) = ([0; CELLS], [0; CELLS]);
         let listed =
-            ffi::runcedau_lent_corner_cells(self.map, &self.tables.cells, &mut out, &mut statuses);
+            ffi::runcedau_corner_cells(self.map, &self.tables.cells, &mut out, &mut statuses);
         cells_of(&out[..count_of(listed)])
             .into_iter()
             .zip(statuses)
@@ -287,7 +287,7 @@ impl Map {
     pub fn points(&self) -> Vec<VisiblePoint> {
         let t = &*self.tables;
         let (mut out, mut bits, mut blocks) = ([0; POINTS], [0; POINTS], [0; POINTS]);
-        let listed = ffi::runcedau_lent_all_points(
+        let listed = ffi::runcedau_all_points(
             self.map,
             &t.points,
             &t.statuses,
@@ -307,7 +307,7 @@ impl Map {
     /// The points that nothing blocks.
     pub fn iter_points(&self) -> impl Iterator<Item = Cell> {
         let mut out = [0; POINTS];
-        let listed = ffi::runcedau_lent_free_points(
+        let listed = ffi::runcedau_free_points(
             self.map,
             &self.tables.points,
             &self.tables.blockers,
@@ -331,7 +331,7 @@ impl Map {
     pub fn pairs(&self) -> Vec<Pair> {
         let t = &*self.tables;
         let (mut lesser, mut greater, mut blocks) = ([0; LISTED], [0; LISTED], [0; LISTED]);
-        let listed = ffi::runcedau_lent_all_pairs(
+        let listed = ffi::runcedau_all_pairs(
             self.map,
             &t.points,
             &t.pairs,
@@ -351,7 +351,7 @@ impl Map {
     pub fn iter_edges(&self) -> impl Iterator<Item = (Cell, Cell)> {
         let t = &*self.tables;
         let (mut lesser, mut greater) = ([0; LISTED], [0; LISTED]);
-        let listed = ffi::runcedau_lent_open_pairs(
+        let listed = ffi::runcedau_open_pairs(
             self.map,
             &t.points,
             &t.blockers,
@@ -384,7 +384,7 @@ impl Map {
     /// ```
     pub fn calculate_visibility(&self, cell: Cell) -> Result<Vec<Cell>, Refusal> {
         let (t, mut out) = (&*self.tables, [0; POINTS]);
-        let listed = ffi::runcedau_lent_visibility(
+        let listed = ffi::runcedau_visibility(
             self.map,
             &t.cells,
             &t.points,
@@ -406,7 +406,7 @@ impl Map {
     /// [`Refusal::Coordinate`] of a cell beyond 1,048,640.
     pub fn neighbors(&self, cell: Cell) -> Result<Vec<Cell>, Refusal> {
         let mut out = [0; POINTS];
-        let listed = ffi::runcedau_lent_neighbours(self.map, &self.tables.cells, cell, &mut out);
+        let listed = ffi::runcedau_neighbours(self.map, &self.tables.cells, cell, &mut out);
         Refusal::check(listed.refusal)?;
         Ok(cells_of(&out[..listed.count]))
     }

@@ -94,10 +94,7 @@ impl fmt::Display for Refusal {
             Refusal::CellSize => "the cell size is not a number from 1/1,024 to 65,536",
             Refusal::Radius => "the radius is not a number from 0 to 63.5 times the cell size",
             Refusal::BatchLength => "the batch has more than 256 entries",
-            Refusal::BatchOrder => {
-                "the cells of the batch do not ascend by x, then y, or one is named twice, \
-                 or an entry is not whole"
-            }
+            Refusal::BatchOrder => "the batch's cells do not ascend by x, then y",
             Refusal::Coordinate => {
                 "a cell is too far out: its x and y may be from -1,048,576 to 1,048,576 \
                  (in a question 64 more)"
@@ -171,6 +168,7 @@ mod tests {
 
     #[test]
     fn a_number_without_a_name_is_an_error() {
+        assert_eq!(Refusal::check(9), Err(Refusal::ShortBuffer));
         assert_eq!(Refusal::check(10), Err(Refusal::MalformedFile));
         assert_eq!(Refusal::check(11), Err(Refusal::Unknown(11)));
     }

@@ -28,7 +28,7 @@ impl Lent {
             corners: vec![7; 2304],
             altered: vec![7; 2304],
         };
-        let opened = ffi::runcedau_lent_open(
+        let opened = ffi::runcedau_open(
             256.0,
             128.0,
             &mut lent.cells,
@@ -53,7 +53,7 @@ impl Lent {
     }
 
     fn change(&mut self, map: ffi::Map, batch: &[i64]) -> ffi::Changed {
-        ffi::runcedau_lent_change_cells(
+        ffi::runcedau_change_cells(
             map,
             &mut self.cells,
             &mut self.points,
@@ -112,7 +112,7 @@ fn an_unknown_shape_is_refused_with_8() {
     let (lent, map) = Lent::one_cell();
     let (p, q) = (Point::new(-640.0, 128.0), Point::new(640.0, 128.0));
     for shape in 0..=u8::MAX {
-        let found = ffi::runcedau_lent_ask(map, &lent.cells, shape, p, q, 100.0);
+        let found = ffi::runcedau_ask(map, &lent.cells, shape, p, q, 100.0);
         assert_eq!(found.refusal, if shape < 4 { 0 } else { 8 }, "{shape}");
         assert_eq!(found.some, shape == 3, "{shape}");
     }
@@ -123,7 +123,7 @@ fn an_unknown_shape_is_refused_with_8() {
 fn an_unknown_shape_of_no_map_is_refused_with_1() {
     let (lent, _) = Lent::one_cell();
     let p = Point::new(0.0, 0.0);
-    let found = ffi::runcedau_lent_ask(ffi::Map::default(), &lent.cells, 9, p, p, 0.0);
+    let found = ffi::runcedau_ask(ffi::Map::default(), &lent.cells, 9, p, p, 0.0);
     assert_eq!(found.refusal, 1);
 }
 
