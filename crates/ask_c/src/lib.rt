@@ -1,4 +1,6 @@
 // The question of four shapes under a C name.
+#![tactic(auto)]
+
 ghost use Rattle.std.specs.Prelude.{◌≡◌};
 ghost use Rattle.ask_c.specs.Told.{Asked, found_of};
 

@@ -1,4 +1,6 @@
 // The points and pairs of a map under C names. Each function is the call of that name, with its contract.
+#![tactic(auto)]
+
 ghost use Rattle.answers.specs.PairLists.{AllPairs, AllPoints, FreePoints, OpenPairs};
 
 use answers::judge::Count;

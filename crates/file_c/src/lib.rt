@@ -1,4 +1,6 @@
 // Map files and listings under C names. Each function is the call that it makes, with its contract.
+#![tactic(auto)]
+
 ghost use Rattle.held.specs.Holds.{tables_of};
 ghost use Rattle.mapfile.specs.Files.{FileRead};
 ghost use Rattle.report.specs.Filed.{Listed};

@@ -1,5 +1,7 @@
 // A floor's batches and questions under C names, for the benchmark of cells alone. No part of the border: the map's calls answer
 // the same questions.
+#![tactic(auto)]
+
 ghost use Rattle.grid.specs.Change.{lent_of};
 ghost use Rattle.grid_c.specs.Called.{Called};
 ghost use Rattle.grid_c.specs.Told.{Tells, question};

@@ -1,4 +1,6 @@
 // A map under C names: opening, batches, changes of the radius. Each function is the call of that name, with its contract.
+#![tactic(auto)]
+
 ghost use Rattle.held.specs.Holds.{tables_of};
 ghost use Rattle.visibility.specs.Change.{Changing, lent_of};
 ghost use Rattle.visibility.specs.Open.{Opening};

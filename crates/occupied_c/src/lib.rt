@@ -1,4 +1,6 @@
 // The cells and corners of a map under C names. Each function is the call of that name, with its contract.
+#![tactic(auto)]
+
 ghost use Rattle.answers.specs.CellLists.{CornerCells, IsOccupied, OccupiedCells};
 
 use answers::cells::{Told, corner_cells, is_occupied, occupied_cells};

@@ -1,4 +1,6 @@
 // What is seen from a cell, and its neighbours, under C names. Each function is the call of that name, with its contract.
+#![tactic(auto)]
+
 ghost use Rattle.held.specs.Holds.{tables_of};
 ghost use Rattle.views.specs.Seen.{Beside, InSight};
 
