@@ -24,21 +24,11 @@ new-test-requires c = tt
 pub loop-i-init : goal.loop-i-init
 loop-i-init c = (omega arith, refl, refl)
 
-pub offset_bounds-cells-i : goal.offset_bounds-cells-i
-offset_bounds-cells-i c =
-    let long : length c.args.cells.now * 8 < 2 ^ 63 = c.ranges.1.1.1.0.1 in
-    let k = long in omega arith
-
 pub passes-requires : goal.passes-requires
 passes-requires c = tt
 
 pub byte-requires : goal.byte-requires
 byte-requires c = tt
-
-pub overflow_add-i : goal.overflow_add-i
-overflow_add-i c =
-    let long : length c.args.cells.now * 8 < 2 ^ 63 = c.ranges.1.1.1.0.1 in
-    let k = long in omega arith
 
 pub loop-i-preserved : goal.loop-i-preserved
 loop-i-preserved c =
