@@ -1,8 +1,11 @@
 // Replays the vectors on standard input: each line is a letter for the function and two operands as
 // bit patterns, 36 bytes in all, and comes back with the answer's pattern after it. What Rust's own
 // functions answer is in the file stdout beside src/.
-use libc::STDOUT_FILENO;
+#![tactic(auto)]
+
 use replay::patterns::{float_at, pattern_of, signed};
+use std::io;
+use std::io::{Read, Write};
 
 fn answer(function: u8, x: f64, y: f64) -> u64 {
     match function {
@@ -21,23 +24,27 @@ fn answer(function: u8, x: f64, y: f64) -> u64 {
 }
 
 // One line, and whether there may be another.
-fn replay() -> bool {
+fn replay<R: Read, W: Write>(input: &mut R, output: &mut W) -> io::Result<bool> {
     let mut line = [0u8; 36];
-    if !replay::lines::read_line(&mut line) {
-        return false;
+    if !replay::lines::read_line(input, &mut line) {
+        return Ok(false);
     }
     let function = line[0];
     let x = float_at(&line, 2);
     let y = float_at(&line, 19);
     line[35] = b' ';
-    io::write_all(STDOUT_FILENO, &line);
-    replay::lines::write_pattern(answer(function, x, y), b"\n")
+    output.write_all(&line)?;
+    replay::lines::write_pattern(output, answer(function, x, y), b"\n")?;
+    Ok(true)
 }
 
 // A proved loop has to end, and nothing says that the input does: the turns are counted down.
-fn main() {
+fn main(rt: HostRuntime) -> io::Result<()> {
+    let mut input = rt.stdin();
+    let mut output = rt.stdout();
     let mut turns = u64::MAX;
-    while turns > 0 && replay() {
+    while turns > 0 && replay(&mut input, &mut output)? {
         turns -= 1;
     }
+    Ok(())
 }

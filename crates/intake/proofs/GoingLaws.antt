@@ -106,6 +106,36 @@ module _ {n : ℕ} {t₀ : Tables} {r : Reader} {t : Tables} {left : ℕ} where
         pub go_done : (m : Map) → a ≡ Reading.Done m → Came g.bytes t₀ t' (Reading.Done m)
         go_done m e = subst (Came g.bytes t₀ t') e (came (subst (λ (c : Reading). Feeds r t w [] c t') (sym e) (stop_done (inr refl) (subst (FieldRead r w t t') e x))))
 
+-- ---- a turn of the loop: the window was refilled, and a field was read from its bytes
+module _ (b₀ : List ℕ) {b b' : List ℕ} {t₀ t t' : Tables} {r : Reader} {w w' : Window} {left : ℕ} {a : Reading} (need : short (lent b₀ t₀) ≡ false) (small : length b₀ < 2 ^ 63)
+    (long : length b ≡ length b₀) (h : Within w b) (g : Going (length b₀) t₀ r t (bytes_of w b) w.ended left) (f : Refilled w w' b b') (x : FieldRead r (bytes_of w' b') t t' a) where
+  going : Going (length b₀) t₀ r t (bytes_of w' b') w'.ended left
+  going = go_fill w w' b b' h f g
+
+  fits : length (bytes_of w' b') ≤ length b₀
+  fits = let i = f.inside in let e = within_long w' b' i in let l = f.long in omega arith
+
+  wide_window : (w'.ended ≡ true) ⊎ (need_window ≤ length (bytes_of w' b'))
+  wide_window =
+      let e = within_long w' b' f.inside in
+      let k = (tables_long b₀ t₀ need).0 in
+      let l : need_window ≤ length b = omega arith in
+      ⊎_elim (λ z. inl z) (λ (m : need_window ≤ w'.end - w'.from). let j : need_window ≤ length (bytes_of w' b') = omega arith in inr j) (f.enough l h)
+
+  pub turn_more : (r' : Reader) (used : ℕ) → a ≡ Reading.More r' used → used ≤ left
+      → (w'.from + used ≤ w'.end) × Going (length b₀) t₀ r' t' (take (w'.end - (w'.from + used)) (drop (w'.from + used) b')) w'.ended (left - used)
+  turn_more r' used e l =
+      let u = (x.within r' used e).1 in
+      let k = within_long w' b' f.inside in
+      let i = f.inside in
+      (omega arith, rw (window_after w'.from w'.end used b') (go_more going {t' = t'} x r' used e wide_window l))
+
+  pub turn_refused : (k n : ℕ) → a ≡ Reading.Refused k n → (bytes : List ℕ) × Came bytes t₀ t' (Reading.Refused k n)
+  turn_refused k n e = (going.bytes, go_refused going {t' = t'} x (tables_long b₀ t₀ need).1 fits k n e)
+
+  pub turn_done : (m : Map) → a ≡ Reading.Done m → (bytes : List ℕ) × Came bytes t₀ t' (Reading.Done m)
+  turn_done m e = (going.bytes, go_done going {t' = t'} x (tables_long b₀ t₀ need).1 fits m e)
+
 -- ---- the call
 pub taken_lacking : (b : List ℕ) (t : Tables) → short (lent b t) ≡ true → Taken b b t t (End.Refused 9 0)
 taken_lacking b t e = record { lacking = λ _. (refl, refl, refl); taken = λ f. absurd (true≢false (sym e ∙ f)) }

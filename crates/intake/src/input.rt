@@ -1,4 +1,4 @@
-// The map that a descriptor gives. A file of any length is read through a buffer of fixed length, field by field.
+// The map that a reader gives. A file of any length is read through a buffer of fixed length, field by field.
 ghost use Rattle.std.specs.Prelude.{◌≡◌, false};
 ghost use Rattle.held.specs.Holds.{tables_of};
 ghost use Rattle.model.specs.Refusal.{short};
@@ -9,6 +9,7 @@ use held::map::Map;
 use mapfile::field::one_field;
 use mapfile::state::{Reading, begin};
 use sizes::WINDOW;
+use std::io::Read;
 use window::input::{Window, refill};
 
 // How the reading ended: a map, a refusal with its field, or an input that could not be read to its end.
@@ -20,8 +21,8 @@ pub enum End {
 }
 
 // Reads all fields. A proved loop has to end, and nothing says that the input does: an input of 2^63 bytes or more is told as unread.
-fn read_fields(
-    fd: i32,
+fn read_fields<R: Read>(
+    input: &mut R,
     buffer: &mut [u8],
     cells: &mut [u64],
     points: &mut [u64],
@@ -43,7 +44,7 @@ fn read_fields(
     };
     let mut room = 9223372036854775807 - buffer.len();
     loop {
-        window = refill(fd, buffer, window);
+        window = refill(input, buffer, window);
         let from = window.from;
         let end = window.end;
         if window.failed {
@@ -73,9 +74,9 @@ fn read_fields(
     }
 }
 
-// Reads the map file that the descriptor gives, to its end, into the tables. The buffer has 2,307 bytes at least.
-pub fn read_map(
-    fd: i32,
+// Reads the map file that the reader gives, to its end, into the tables. The buffer has 2,307 bytes at least.
+pub fn read_map<R: Read>(
+    input: &mut R,
     buffer: &mut [u8],
     cells: &mut [u64],
     points: &mut [u64],
@@ -98,5 +99,5 @@ pub fn read_map(
     if lacks(buffer.len(), WINDOW, tables) {
         return End::Refused(9, 0);
     }
-    read_fields(fd, buffer, cells, points, statuses, blockers, pairs)
+    read_fields(input, buffer, cells, points, statuses, blockers, pairs)
 }

@@ -1,4 +1,6 @@
-// A map file that a descriptor gives: read into a map's lent tables, and listed.
+// A map file that a reader gives: read into a map's lent tables, and listed.
+#![tactic(auto)]
+
 pub mod input;
 pub mod listing;
 pub mod output;

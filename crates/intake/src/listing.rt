@@ -1,4 +1,4 @@
-// The listing of the map file that a descriptor gives.
+// The listing of the map file that a reader gives.
 ghost use Rattle.intake.specs.Shown.{ShownInput};
 
 use crate::input::{End, read_map};
@@ -6,6 +6,7 @@ use answers::judge::{Count, lacks, refused};
 use print::refusal::put_refusal;
 use report::map::list_map;
 use sizes::{CELLS, LISTING, PAIRS, POINTS, WINDOW};
+use std::io::Read;
 
 // The count of the listing's bytes, or the refusal 9 of a buffer that is short; or an input that could not be read to its end.
 #[derive(Drop)]
@@ -14,8 +15,8 @@ pub enum Shown {
     Unread,
 }
 
-// Writes the listing of the map file that the descriptor gives to `out`. It is read through `buffer`, of 2,307 bytes at least.
-pub fn list_input(fd: i32, buffer: &mut [u8], out: &mut [u8]) -> Shown
+// Writes the listing of the map file that the reader gives to `out`. It is read through `buffer`, of 2,307 bytes at least.
+pub fn list_input<R: Read>(input: &mut R, buffer: &mut [u8], out: &mut [u8]) -> Shown
     ensures { ShownInput buffer.old buffer.new out.old out.new result }
 {
     if lacks(buffer.len(), WINDOW, lacks(out.len(), LISTING, false)) {
@@ -27,7 +28,7 @@ pub fn list_input(fd: i32, buffer: &mut [u8], out: &mut [u8]) -> Shown
     let mut blockers = [0u64; POINTS];
     let mut pairs = [0u64; PAIRS];
     let end = read_map(
-        fd,
+        input,
         buffer,
         &mut cells[..],
         &mut points[..],

@@ -12,13 +12,15 @@ use replay::change::{enter, write_changes};
 use replay::lines::answer;
 use replay::patterns::{float_at, integer_at};
 use sizes::{BATCH, CELLS, CORNERS, PAIRS, POINTS};
+use std::io;
+use std::io::Write;
 use visibility::change::{Changed, change_cells};
 use visibility::open::open;
 use visibility::radius::change_radius;
 
 // The map, the one whose tables are told (that before a refused opening, else the same), the numbers of the batch so far, and
 // whether there was a line.
-#[derive(Drop)]
+#[derive(Clone, Copy)]
 pub(crate) struct State {
     pub map: Map,
     pub told: Map,
@@ -54,15 +56,17 @@ pub(crate) fn stopped(state: State) -> State {
     last
 }
 
-fn answer_plain(line: &[u8], o: Outcome) {
+fn answer_plain<W: Write>(output: &mut W, line: &[u8], o: Outcome) -> io::Result<()> {
     answer(
+        output,
         line,
         &[o.refusal as u64, o.map.cells as u64, o.map.points as u64],
-    );
+    )
 }
 
-fn answer_batch(line: &[u8], r: Changed) {
+fn answer_batch<W: Write>(output: &mut W, line: &[u8], r: Changed) -> io::Result<()> {
     answer(
+        output,
         line,
         &[
             r.refusal as u64,
@@ -72,11 +76,12 @@ fn answer_batch(line: &[u8], r: Changed) {
             r.map.cells as u64,
             r.map.points as u64,
         ],
-    );
+    )
 }
 
 // A new map, or what a refused opening gives, and an empty batch.
-pub(crate) fn begin(
+pub(crate) fn begin<W: Write>(
+    output: &mut W,
     line: &[u8],
     state: State,
     cells: &mut [u64; CELLS],
@@ -84,47 +89,55 @@ pub(crate) fn begin(
     statuses: &mut [u8; POINTS],
     blockers: &mut [u64; POINTS],
     pairs: &mut [u64; PAIRS],
-) -> State {
+) -> io::Result<State> {
     let size = float_at(line, 2);
     let radius = float_at(line, 19);
     let o = open(size, radius, cells, points, statuses, blockers, pairs);
-    answer_plain(line, o);
+    answer_plain(output, line, o)?;
     let before = state.map;
     let after = o.map;
-    State {
+    Ok(State {
         map: after,
         told: if o.refusal == 0 { after } else { before },
         used: 0,
         more: true,
-    }
+    })
 }
 
 // One more entry of the batch.
-pub(crate) fn add(line: &[u8], state: State, batch: &mut [i64; 900], full: i64) -> State {
-    answer(line, &[]);
+pub(crate) fn add<W: Write>(
+    output: &mut W,
+    line: &[u8],
+    state: State,
+    batch: &mut [i64; 900],
+    full: i64,
+) -> io::Result<State> {
+    answer(output, line, &[])?;
     let x = integer_at(line, 2);
     let y = integer_at(line, 19);
     let mut next = state;
     next.used = enter(batch, state.used, x, y, full);
-    next
+    Ok(next)
 }
 
 // What a batch did: its numbers, then each change.
-fn tell_changes(
+fn tell_changes<W: Write>(
+    output: &mut W,
     line: &[u8],
     r: Changed,
     confirmed: &[u64; BATCH],
     full: &[u8; BATCH],
     corners: &[u64; CORNERS],
     altered: &[u8; CORNERS],
-) {
-    answer_batch(line, r);
-    write_changes(b"= ", confirmed, full, r.confirmed);
-    write_changes(b"^ ", corners, altered, r.corners);
+) -> io::Result<()> {
+    answer_batch(output, line, r)?;
+    write_changes(output, b"= ", confirmed, full, r.confirmed)?;
+    write_changes(output, b"^ ", corners, altered, r.corners)
 }
 
 // Returns the map afterwards.
-fn change(
+fn change<W: Write>(
+    output: &mut W,
     line: &[u8],
     map: Map,
     cells: &mut [u64; CELLS],
@@ -133,7 +146,7 @@ fn change(
     blockers: &mut [u64; POINTS],
     pairs: &mut [u64; PAIRS],
     batch: &[i64],
-) -> Map {
+) -> io::Result<Map> {
     let mut confirmed = [0u64; BATCH];
     let mut full = [0u8; BATCH];
     let mut corners = [0u64; CORNERS];
@@ -151,13 +164,14 @@ fn change(
         &mut corners,
         &mut altered,
     );
-    tell_changes(line, r, &confirmed, &full, &corners, &altered);
+    tell_changes(output, line, r, &confirmed, &full, &corners, &altered)?;
     let after = r.map;
-    if r.refusal == 0 { after } else { map }
+    Ok(if r.refusal == 0 { after } else { map })
 }
 
 // The batch so far, given to the map.
-pub(crate) fn commit(
+pub(crate) fn commit<W: Write>(
+    output: &mut W,
     line: &[u8],
     state: State,
     cells: &mut [u64; CELLS],
@@ -166,12 +180,13 @@ pub(crate) fn commit(
     blockers: &mut [u64; POINTS],
     pairs: &mut [u64; PAIRS],
     batch: &[i64],
-) -> State {
+) -> io::Result<State> {
     let map = state.map;
     let used = state.used;
     let mut after = map;
     if used <= batch.len() {
         after = change(
+            output,
             line,
             map,
             cells,
@@ -180,13 +195,14 @@ pub(crate) fn commit(
             blockers,
             pairs,
             &batch[..used],
-        );
+        )?;
     }
-    with(after, 0)
+    Ok(with(after, 0))
 }
 
 // Another radius, or the same again. Entries stay pending.
-pub(crate) fn set_radius(
+pub(crate) fn set_radius<W: Write>(
+    output: &mut W,
     line: &[u8],
     state: State,
     cells: &[u64; CELLS],
@@ -194,11 +210,11 @@ pub(crate) fn set_radius(
     statuses: &mut [u8; POINTS],
     blockers: &mut [u64; POINTS],
     pairs: &mut [u64; PAIRS],
-) -> State {
+) -> io::Result<State> {
     let map = state.map;
     let radius = float_at(line, 2);
     let o = change_radius(map, cells, points, statuses, blockers, pairs, radius);
-    answer_plain(line, o);
+    answer_plain(output, line, o)?;
     let given = o.map;
-    with(if o.refusal == 0 { given } else { map }, state.used)
+    Ok(with(if o.refusal == 0 { given } else { map }, state.used))
 }

@@ -2,6 +2,7 @@
 ghost use Rattle.std.specs.Prelude.{◌≤◌};
 
 use replay::lines::read_part;
+use std::io::Read;
 
 // How many operands a line of the letter has.
 fn operands(letter: u8) -> usize
@@ -17,17 +18,17 @@ fn operands(letter: u8) -> usize
 }
 
 // Reads the next line and returns its length, or 0 where the input ends before, or the longest would find no room.
-pub(crate) fn next_line(line: &mut [u8]) -> usize
+pub(crate) fn next_line<R: Read>(input: &mut R, line: &mut [u8]) -> usize
     ensures { result ≤ 87 }
 {
     if line.len() < 87 {
         return 0;
     }
-    if !read_part(line, 0, 1) {
+    if !read_part(input, line, 0, 1) {
         return 0;
     }
     let end = 2 + 17 * operands(line[0]);
-    if !read_part(line, 1, end) {
+    if !read_part(input, line, 1, end) {
         return 0;
     }
     end

@@ -1,6 +1,8 @@
 // Replays the vectors on standard input: each line is a letter and its operands of sixteen digits, and comes back with its
 // answer's numbers after it, in decimals. What the Rust answers is in the file stdout beside src/. The lines that alter the map
 // are those of `call`; those of `tables`, `query` and `list` leave it as it is.
+#![tactic(auto)]
+
 mod call;
 mod line;
 mod list;
@@ -13,10 +15,13 @@ use line::next_line;
 use list::tell_list;
 use query::{find, look, see, step};
 use sizes::{CELLS, PAIRS, POINTS};
+use std::io;
+use std::io::{Read, Write};
 use tables::tell_tables;
 
 // A question, a list or the tables.
-fn tell(
+fn tell<W: Write>(
+    output: &mut W,
     letter: u8,
     line: &[u8],
     state: State,
@@ -25,21 +30,24 @@ fn tell(
     statuses: &[u8; POINTS],
     blockers: &[u64; POINTS],
     pairs: &[u64; PAIRS],
-) {
+) -> io::Result<()> {
     let map = state.map;
     let told = state.told;
     match letter {
-        b'T' => tell_tables(line, told, points, statuses, blockers, pairs),
-        b'i' => look(line, map, cells),
-        b'p' | b's' | b'c' | b'w' => find(letter, line, map, cells),
-        b'v' => see(line, map, cells, points, statuses, blockers, pairs),
-        b'n' => step(line, map, cells),
-        _ => tell_list(letter, line, map, cells, points, statuses, blockers, pairs),
+        b'T' => tell_tables(output, line, told, points, statuses, blockers, pairs),
+        b'i' => look(output, line, map, cells),
+        b'p' | b's' | b'c' | b'w' => find(output, letter, line, map, cells),
+        b'v' => see(output, line, map, cells, points, statuses, blockers, pairs),
+        b'n' => step(output, line, map, cells),
+        _ => tell_list(
+            output, letter, line, map, cells, points, statuses, blockers, pairs,
+        ),
     }
 }
 
 // What the line asks for.
-fn obey(
+fn obey<W: Write>(
+    output: &mut W,
     letter: u8,
     line: &[u8],
     state: State,
@@ -49,24 +57,32 @@ fn obey(
     blockers: &mut [u64; POINTS],
     pairs: &mut [u64; PAIRS],
     batch: &mut [i64; 900],
-) -> State {
+) -> io::Result<State> {
     match letter {
-        b'o' => begin(line, state, cells, points, statuses, blockers, pairs),
-        b'+' => add(line, state, batch, 1),
-        b'-' => add(line, state, batch, 0),
-        b'b' => commit(line, state, cells, points, statuses, blockers, pairs, batch),
-        b'r' => set_radius(line, state, cells, points, statuses, blockers, pairs),
+        b'o' => begin(
+            output, line, state, cells, points, statuses, blockers, pairs,
+        ),
+        b'+' => add(output, line, state, batch, 1),
+        b'-' => add(output, line, state, batch, 0),
+        b'b' => commit(
+            output, line, state, cells, points, statuses, blockers, pairs, batch,
+        ),
+        b'r' => set_radius(
+            output, line, state, cells, points, statuses, blockers, pairs,
+        ),
         _ => {
             tell(
-                letter, line, state, cells, points, statuses, blockers, pairs,
-            );
-            state
+                output, letter, line, state, cells, points, statuses, blockers, pairs,
+            )?;
+            Ok(state)
         }
     }
 }
 
 // One line, where there is one.
-fn replay(
+fn replay<R: Read, W: Write>(
+    input: &mut R,
+    output: &mut W,
     state: State,
     cells: &mut [u64; CELLS],
     points: &mut [u64; POINTS],
@@ -74,13 +90,14 @@ fn replay(
     blockers: &mut [u64; POINTS],
     pairs: &mut [u64; PAIRS],
     batch: &mut [i64; 900],
-) -> State {
+) -> io::Result<State> {
     let mut line = [0u8; 87];
-    let end = next_line(&mut line);
+    let end = next_line(input, &mut line);
     if end == 0 {
-        return stopped(state);
+        return Ok(stopped(state));
     }
     obey(
+        output,
         line[0],
         &line[..end],
         state,
@@ -94,7 +111,9 @@ fn replay(
 }
 
 // A proved loop has to end, and nothing says that the input does: the turns are counted down.
-fn main() {
+fn main(rt: HostRuntime) -> io::Result<()> {
+    let mut input = rt.stdin();
+    let mut output = rt.stdout();
     let mut cells = [0u64; CELLS];
     let mut points = [0u64; POINTS];
     let mut statuses = [0u8; POINTS];
@@ -105,6 +124,8 @@ fn main() {
     let mut turns = u64::MAX;
     while turns > 0 && state.more {
         state = replay(
+            &mut input,
+            &mut output,
             state,
             &mut cells,
             &mut points,
@@ -112,7 +133,8 @@ fn main() {
             &mut blockers,
             &mut pairs,
             &mut batch,
-        );
+        )?;
         turns -= 1;
     }
+    Ok(())
 }

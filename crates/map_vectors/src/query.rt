@@ -12,20 +12,34 @@ use held::map::Map;
 use replay::lines::answer;
 use replay::questions::{answer_place, cell_at, question_at};
 use sizes::{CELLS, PAIRS, POINTS};
+use std::io;
+use std::io::Write;
 use views::neighbours::neighbours;
 use views::visibility_from::visibility_from;
 
-pub(crate) fn look(line: &[u8], map: Map, cells: &[u64; CELLS]) {
+pub(crate) fn look<W: Write>(
+    output: &mut W,
+    line: &[u8],
+    map: Map,
+    cells: &[u64; CELLS],
+) -> io::Result<()> {
     let t = is_occupied(map, cells, cell_at(line));
-    answer(line, &[t.refusal as u64, t.yes as u64]);
+    answer(output, line, &[t.refusal as u64, t.yes as u64])
 }
 
-pub(crate) fn find(letter: u8, line: &[u8], map: Map, cells: &[u64; CELLS]) {
+pub(crate) fn find<W: Write>(
+    output: &mut W,
+    letter: u8,
+    line: &[u8],
+    map: Map,
+    cells: &[u64; CELLS],
+) -> io::Result<()> {
     let a = ask(map, cells, question_at(letter, line));
-    answer_place(line, a);
+    answer_place(output, line, a)
 }
 
-pub(crate) fn see(
+pub(crate) fn see<W: Write>(
+    output: &mut W,
     line: &[u8],
     map: Map,
     cells: &[u64; CELLS],
@@ -33,19 +47,24 @@ pub(crate) fn see(
     statuses: &[u8; POINTS],
     blockers: &[u64; POINTS],
     pairs: &[u64; PAIRS],
-) {
+) -> io::Result<()> {
     let mut out = [0u64; POINTS];
     let cell = cell_at(line);
     let r = visibility_from(
         map, cells, points, statuses, blockers, pairs, cell, &mut out,
     );
-    answer_count(line, r);
-    write_cells(&out, r.count);
+    answer_count(output, line, r)?;
+    write_cells(output, &out, r.count)
 }
 
-pub(crate) fn step(line: &[u8], map: Map, cells: &[u64; CELLS]) {
+pub(crate) fn step<W: Write>(
+    output: &mut W,
+    line: &[u8],
+    map: Map,
+    cells: &[u64; CELLS],
+) -> io::Result<()> {
     let mut out = [0u64; POINTS];
     let r = neighbours(map, cells, cell_at(line), &mut out);
-    answer_count(line, r);
-    write_cells(&out, r.count);
+    answer_count(output, line, r)?;
+    write_cells(output, &out, r.count)
 }

@@ -3,8 +3,9 @@ ghost use Rattle.std.specs.Prelude.{◌≡◌};
 ghost use Rattle.replay.specs.Entered.{entered, used_then};
 
 use crate::lines::write_number;
-use libc::STDOUT_FILENO;
 use sizes::COLUMN;
+use std::io;
+use std::io::Write;
 
 // Puts an entry's three numbers after those that the batch has so far, where there is room. Returns how many it has then.
 pub fn enter(batch: &mut [i64], used: usize, x: i64, y: i64, full: i64) -> usize
@@ -23,31 +24,43 @@ pub fn enter(batch: &mut [i64], used: usize, x: i64, y: i64, full: i64) -> usize
 }
 
 // Writes the column and the row of a key, what is to come between them, and what is to follow.
-pub fn write_cell(key: u64, between: &[u8], end: &[u8]) {
-    let x = std::num::wrapping_sub_u64(key / COLUMN, 2147483648);
-    let y = std::num::wrapping_sub_u64(key % COLUMN, 2147483648);
-    write_number(x, between);
-    write_number(y, end);
+pub fn write_cell<W: Write>(
+    output: &mut W,
+    key: u64,
+    between: &[u8],
+    end: &[u8],
+) -> io::Result<()> {
+    let x = (key / COLUMN).wrapping_sub(2147483648);
+    let y = (key % COLUMN).wrapping_sub(2147483648);
+    write_number(output, x, between)?;
+    write_number(output, y, end)
 }
 
 // A cell and its number, on a line of their own.
-fn write_change(mark: &[u8], key: u64, number: u8) {
-    io::write_all(STDOUT_FILENO, mark);
-    write_cell(key, b" ", b" ");
-    write_number(number as u64, b"\n");
+fn write_change<W: Write>(output: &mut W, mark: &[u8], key: u64, number: u8) -> io::Result<()> {
+    output.write_all(mark)?;
+    write_cell(output, key, b" ", b" ")?;
+    write_number(output, number as u64, b"\n")
 }
 
 // Writes the first `count` changes.
-pub fn write_changes(mark: &[u8], keys: &[u64], numbers: &[u8], count: usize) {
+pub fn write_changes<W: Write>(
+    output: &mut W,
+    mark: &[u8],
+    keys: &[u64],
+    numbers: &[u8],
+    count: usize,
+) -> io::Result<()> {
     if keys.len() < count {
-        return;
+        return Ok(());
     }
     if numbers.len() < count {
-        return;
+        return Ok(());
     }
     let mut i = 0;
     while i < count {
-        write_change(mark, keys[i], numbers[i]);
+        write_change(output, mark, keys[i], numbers[i])?;
         i += 1;
     }
+    Ok(())
 }

@@ -1,57 +1,53 @@
-// What the programs that replay vectors share: a line of fixed length from standard input, a letter and
-// operands of sixteen hexadecimal digits (patterns.rt), and the answer's digits after it on standard output.
+// What the programs that replay vectors share: a line of fixed length from the input, a letter and
+// operands of sixteen hexadecimal digits (patterns.rt), and the answer's digits after it in the output.
 
-use libc::{STDIN_FILENO, STDOUT_FILENO};
+use std::io;
+use std::io::{Read, Write};
 
 // Fills the line, and says whether the input had that much.
-pub fn read_line(line: &mut [u8]) -> bool {
-    io::read_full(STDIN_FILENO, line) == line.len()
+pub fn read_line<R: Read>(input: &mut R, line: &mut [u8]) -> bool {
+    input.read_exact(line).is_ok()
 }
 
 // Fills a part of the line, and says whether the input had that much.
-pub fn read_part(line: &mut [u8], from: usize, to: usize) -> bool {
+pub fn read_part<R: Read>(input: &mut R, line: &mut [u8], from: usize, to: usize) -> bool {
     if to < from {
         return false;
     }
     if line.len() < to {
         return false;
     }
-    read_line(&mut line[from..to])
+    read_line(input, &mut line[from..to])
 }
 
 // Writes the pattern's digits, and what is to follow them.
-pub fn write_pattern(pattern: u64, end: &[u8]) -> bool {
-    io::print_hex(STDOUT_FILENO, pattern, 16);
-    io::write_all(STDOUT_FILENO, end)
+pub fn write_pattern<W: Write>(output: &mut W, pattern: u64, end: &[u8]) -> io::Result<()> {
+    write!(output, "{pattern:016x}")?;
+    output.write_all(end)
 }
 
 // Writes a two's complement in decimals, and what is to follow it.
-pub fn write_number(pattern: u64, end: &[u8]) -> bool {
-    if pattern < 9223372036854775808 {
-        io::print_decimal(STDOUT_FILENO, pattern);
-    } else {
-        io::write_all(STDOUT_FILENO, b"-");
-        io::print_decimal(STDOUT_FILENO, 18446744073709551615 - pattern + 1);
-    }
-    io::write_all(STDOUT_FILENO, end)
+pub fn write_number<W: Write>(output: &mut W, pattern: u64, end: &[u8]) -> io::Result<()> {
+    write!(output, "{}", pattern.cast_signed())?;
+    output.write_all(end)
 }
 
-fn write_behind(number: u64) {
-    io::write_all(STDOUT_FILENO, b" ");
-    write_number(number, b"");
+fn write_behind<W: Write>(output: &mut W, number: u64) -> io::Result<()> {
+    output.write_all(b" ")?;
+    write_number(output, number, b"")
 }
 
 // Writes a line again, with its answer's numbers in front of its end.
-pub fn answer(line: &[u8], numbers: &[u64]) {
+pub fn answer<W: Write>(output: &mut W, line: &[u8], numbers: &[u64]) -> io::Result<()> {
     let n = line.len();
     if n == 0 {
-        return;
+        return Ok(());
     }
-    io::write_all(STDOUT_FILENO, &line[..n - 1]);
+    output.write_all(&line[..n - 1])?;
     let mut i = 0;
     while i < numbers.len() {
-        write_behind(numbers[i]);
+        write_behind(output, numbers[i])?;
         i += 1;
     }
-    io::write_all(STDOUT_FILENO, b"\n");
+    output.write_all(b"\n")
 }

@@ -11,6 +11,8 @@ use limits::cell::Cell;
 use plane::point::Point;
 use question::ask::{Answer, Place};
 use question::search::Question;
+use std::io;
+use std::io::Write;
 
 // Column and row.
 pub fn cell_at(line: &[u8]) -> Cell
@@ -58,10 +60,14 @@ pub fn question_at(letter: u8, line: &[u8]) -> Question
 }
 
 // The refusal, 1 or 0, and the cell found.
-pub fn answer_place(line: &[u8], a: Answer) {
+pub fn answer_place<W: Write>(output: &mut W, line: &[u8], a: Answer) -> io::Result<()> {
     let place = a.cell;
     match place {
-        Place::Nothing => answer(line, &[a.refusal as u64, 0, 0, 0]),
-        Place::At(c) => answer(line, &[a.refusal as u64, 1, signed(c.x), signed(c.y)]),
+        Place::Nothing => answer(output, line, &[a.refusal as u64, 0, 0, 0]),
+        Place::At(c) => answer(
+            output,
+            line,
+            &[a.refusal as u64, 1, signed(c.x), signed(c.y)],
+        ),
     }
 }

@@ -10,13 +10,16 @@
 // An operand that is not used is 0. The key and the 1 or 0 are plain numbers, all else are bit patterns of f64.
 // An answer is how many values there are, then the first and the second, 0 where there is none. The near test
 // answers 1 or 0, and no value.
+#![tactic(auto)]
+
 ghost use Rattle.std.specs.Prelude.{◌<◌};
 
-use libc::STDOUT_FILENO;
 use plane::point::Point;
 use replay::patterns::{float_at, pattern_at, pattern_of};
 use segment::line::{Crossings, LineSegment};
 use segment::search::SearchF64;
+use std::io;
+use std::io::{Read, Write};
 
 fn point_at(line: &[u8], from: usize) -> Point
     requires { from < 121 }
@@ -73,23 +76,27 @@ fn answer(function: u8, line: &[u8]) -> Crossings {
 }
 
 // One line, and whether there may be another.
-fn replay() -> bool {
+fn replay<R: Read, W: Write>(input: &mut R, output: &mut W) -> io::Result<bool> {
     let mut line = [0u8; 121];
-    if !replay::lines::read_line(&mut line) {
-        return false;
+    if !replay::lines::read_line(input, &mut line) {
+        return Ok(false);
     }
     let a = answer(line[0], &line);
     line[120] = b' ';
-    io::write_all(STDOUT_FILENO, &line);
-    replay::lines::write_pattern(a.count as u64, b" ");
-    replay::lines::write_pattern(pattern_of(a.first), b" ");
-    replay::lines::write_pattern(pattern_of(a.second), b"\n")
+    output.write_all(&line)?;
+    replay::lines::write_pattern(output, a.count as u64, b" ")?;
+    replay::lines::write_pattern(output, pattern_of(a.first), b" ")?;
+    replay::lines::write_pattern(output, pattern_of(a.second), b"\n")?;
+    Ok(true)
 }
 
 // A proved loop has to end, and nothing says that the input does: the turns are counted down.
-fn main() {
+fn main(rt: HostRuntime) -> io::Result<()> {
+    let mut input = rt.stdin();
+    let mut output = rt.stdout();
     let mut turns = u64::MAX;
-    while turns > 0 && replay() {
+    while turns > 0 && replay(&mut input, &mut output)? {
         turns -= 1;
     }
+    Ok(())
 }

@@ -2,6 +2,8 @@
 ghost use Rattle.std.specs.Prelude.{◌≡◌, true, ◌-◌, ◌≤◌, drop, length, take};
 ghost use Rattle.window.specs.Refilled.{Filled, Refilled};
 
+use std::io::Read;
+
 // The bytes from one place up to another; whether the input ended after them; whether it could not be read.
 #[derive(Drop)]
 pub struct Window {
@@ -23,24 +25,30 @@ fn move_down(buffer: &mut [u8], from: usize, end: usize)
     }
 }
 
+// The bytes up to `end`, after which the input ended or could not be read.
+fn ended(end: usize, failed: bool) -> Window
+    ensures { result ≡ record { from = 0; end = end; ended = true; failed = failed } }
+{
+    Window {
+        from: 0,
+        end,
+        ended: true,
+        failed,
+    }
+}
+
 // Reads more after the first `have` bytes, until the buffer is full, the input ends or a read fails.
-fn fill(fd: i32, buffer: &mut [u8], have: usize) -> Window
+fn fill<R: Read>(input: &mut R, buffer: &mut [u8], have: usize) -> Window
     requires { have ≤ length buffer.old }
     ensures { Filled have result buffer.old buffer.new }
 {
     let mut end = have;
     while end < buffer.len() {
-        let got = libc::read(fd, &mut buffer[end..]);
-        let more = io::count(got, &buffer[end..]);
-        if more == 0 {
-            return Window {
-                from: 0,
-                end,
-                ended: true,
-                failed: got < 0,
-            };
+        match input.read(&mut buffer[end..]) {
+            Ok(0) => return ended(end, false),
+            Ok(more) => end += more,
+            Err(_) => return ended(end, true),
         }
-        end += more;
     }
     Window {
         from: 0,
@@ -53,16 +61,11 @@ fn fill(fd: i32, buffer: &mut [u8], have: usize) -> Window
 fn nowhere() -> Window
     ensures { result ≡ record { from = 0; end = 0; ended = true; failed = true } }
 {
-    Window {
-        from: 0,
-        end: 0,
-        ended: true,
-        failed: true,
-    }
+    ended(0, true)
 }
 
 // A window with 2,307 bytes at least, or all that the input has: no field of a map file that is accepted has more.
-pub fn refill(fd: i32, buffer: &mut [u8], window: Window) -> Window
+pub fn refill<R: Read>(input: &mut R, buffer: &mut [u8], window: Window) -> Window
     ensures { Refilled window result buffer.old buffer.new }
 {
     let from = window.from;
@@ -80,5 +83,5 @@ pub fn refill(fd: i32, buffer: &mut [u8], window: Window) -> Window
         return window;
     }
     move_down(buffer, from, end);
-    fill(fd, buffer, end - from)
+    fill(input, buffer, end - from)
 }

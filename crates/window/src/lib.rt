@@ -1,2 +1,4 @@
-// What a descriptor gives, through a buffer of fixed length.
+// What a reader gives, through a buffer of fixed length.
+#![tactic(auto)]
+
 pub mod input;

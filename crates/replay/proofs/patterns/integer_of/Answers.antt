@@ -1,10 +1,9 @@
--- `patterns::integer_of` has the pattern for its two's complement. Assumes nothing.
-use Rattle.std.proofs.Common.{◌≡◌, ℕ, ◌-◌, ◌^◌, ◌<◌, ◌≤◌, ℤ, pos, negsuc, ◌-ℤ◌, sym, refl, ap, ◌∙◌, subst, arith, w64, SFits, to_z, of_z, rules, le-ltb, lt-ltb}
+-- `patterns::integer_of` has the pattern for its two's complement.
+use Rattle.std.proofs.Common.{◌≡◌, ℕ, ◌-◌, ◌^◌, ◌<◌, ◌≤◌, ℤ, pos, negsuc, ◌-ℤ◌, sym, refl, ap, ◌∙◌, subst, arith, w64, SFits, to_z, of_z, le-ltb, lt-ltb}
 use mir.ValLaws.{to_z-of_z, to_z_pos}
 use Rattle.ieee.proofs.Integers.{less_parts, same_int}
 use Rattle.replay.specs.Patterns.{integer_of}
-use Rattle.replay.proofs.patterns.integer_of.Statement.{statement}
-use Rattle.replay.proofs.patterns.integer_of.Tie as tie
+use Rattle.replay.proofs.patterns.integer_of.Goals as goal
 
 -- ---- the two cases, over a plain pattern
 low : (n : ℕ) → n < 2 ^ 63 → to_z w64 n ≡ integer_of n
@@ -27,15 +26,8 @@ high n h l =
     to_z-of_z w64 (negsuc 0 -ℤ to_z w64 k) (fits k b) ∙ turned k b ∙ rw (le-ltb n (2 ^ 63) h) refl
 
 -- ---- the function
-returns : tie.Need-returns
-returns c = low c.before.args.pattern c.if1.true
+pub returns-then-pattern-lt9223372036854775808 : goal.returns-then-pattern-lt9223372036854775808
+returns-then-pattern-lt9223372036854775808 c = low c.args.pattern c.if-pattern-lt9223372036854775808.true
 
-sub-result-2 : tie.Need-overflow-sub-result-2
-sub-result-2 c = fits (18446744073709551615 - c.before.args.pattern) (omega arith)
-
-returns-2 : tie.Need-returns-2
-returns-2 c = high c.before.args.pattern c.if1.false (omega arith)
-
-pub integer-of-spec : {M : Type 1} → statement M
-integer-of-spec =
-    tie.close (tie.spec (λ c. search rules) returns (λ c. search rules) (λ c. search rules) sub-result-2 returns-2)
+pub returns : goal.returns
+returns c = high c.args.pattern c.if-pattern-lt9223372036854775808.false (omega arith)

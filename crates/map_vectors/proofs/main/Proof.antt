@@ -1,7 +1,0 @@
--- `map_vectors::main` is safe and ends: the turns that are left fall. Nothing has to hold from turn to turn. Assumes nothing.
-use native.Mathlib.Omega.{arith}
-use Rattle.map_vectors.proofs.main.Statement.{statement}
-use Rattle.map_vectors.proofs.main.Tie as tie
-
-pub main_spec : {M : Type 1} → statement M
-main_spec = tie.close (tie.spec (λ _ _ _ _ _ _ _ _ _ _ _ _ _ _ _ _. Unit {0}) (λ _ _ _ _ _ _ _ _ _ _ _ _ _ _ _ turns. turns) (λ c κs. tt) (λ c. tt) (λ c κs. tt) (λ c. omega arith) (λ c. omega arith) (λ c. tt) (λ c. tt) (λ c. tt))
