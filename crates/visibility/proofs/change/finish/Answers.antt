@@ -1,43 +1,35 @@
-use Prim.Native.Nat.{◌≤◌}
-use native.Mathlib.Omega.{arith}
-use mathlib.Core.Path.{refl, sym}
-use mathlib.Core.Logic.{⊎_elim}
-use mathlib.Core.List.{◌++◌}
-use lib.ListN.{drop, length}
-use lib.Seq.{length-take-le}
+use Rattle.std.proofs.Common.{ℕ, ◌≤◌, ◌++◌, drop, length, refl, sym, arith, length-take-le}
 use Rattle.model.specs.Limits.{max_cells}
 use Rattle.visibility.proofs.FinishLaws.{finished, kept_long}
-use borrow.Author.Rules.{rules}
 use Rattle.visibility.proofs.change.finish.Goals as goal
 use Rattle.visibility.proofs.change.finish.Goals.{else-after-gt-CELLS, then-after-gt-CELLS}
 
+-- `change::finish`: the cells, the layer over them, and the outputs. Assumes nothing.
 pub slice_bounds-commit-end-2 : goal.slice_bounds-commit-end-2
 slice_bounds-commit-end-2 c = let a = c.args in sym (length-take-le max_cells a.cells.now (omega arith))
 
+-- the count, cut down to the table's places, is within it
 pub slice_bounds-redraw-end : goal.slice_bounds-redraw-end
 slice_bounds-redraw-end c =
-    let used-inside : c.if-after-gt-CELLS.used ≤ length (c.commit-after.new.0 ++ drop max_cells (start c).args.cells.now) = let p = start c in
     let few : c.if-after-gt-CELLS.used ≤ max_cells = elim c.if-after-gt-CELLS.branch [ then-after-gt-CELLS w ↦ omega arith | else-after-gt-CELLS w ↦ omega arith ] in
-    let long = kept_long c.commit-after.new.0 p.args.cells.now p.pre.0 c.commit-after.auto.0 in
-    omega (arith, few, long) in
-    used-inside
+    let long = kept_long c.commit-after.new.cells c.args.cells.now c.requires.0 c.commit-after.auto.cells in
+    omega (arith, few, long)
 
 pub slice_bounds-redraw-end-2 : goal.slice_bounds-redraw-end-2
 slice_bounds-redraw-end-2 c =
-    let used-inside : c.if-after-gt-CELLS.used ≤ length (c.commit-after.new.0 ++ drop max_cells (start c).args.cells.now) = let p = start c in
     let few : c.if-after-gt-CELLS.used ≤ max_cells = elim c.if-after-gt-CELLS.branch [ then-after-gt-CELLS w ↦ omega arith | else-after-gt-CELLS w ↦ omega arith ] in
-    let long = kept_long c.commit-after.new.0 p.args.cells.now p.pre.0 c.commit-after.auto.0 in
-    omega (arith, few, long) in
-    sym (length-take-le c.if-after-gt-CELLS.used (c.commit-after.new.0 ++ drop max_cells (start c).args.cells.now) (used-inside))
+    let long = kept_long c.commit-after.new.cells c.args.cells.now c.requires.0 c.commit-after.auto.cells in
+    sym (length-take-le c.if-after-gt-CELLS.used (c.commit-after.new.cells ++ drop max_cells c.args.cells.now) (omega (arith, few, long)))
 
 pub returns : goal.returns
 returns c =
     -- the four copies, the layer, the count, the cells
     let a = c.args in
-    let g = c.redraw.last.1.1.1.1.1.1.1.1.1.1 in (
+    let g = c.redraw.new in (
       refl,
-      λ M l at f hc hf hn ha. finished f c.commit-after.last.0 c.commit-after.result c.if-after-gt-CELLS.used c.commit-after.ensures (λ h. ⊎_elim (λ w. absurd (omega arith)) (λ w. w.1) c.if-after-gt-CELLS.came)
-          g.0 g.1.0 g.1.1.0 g.1.1.1.0 a.reach at c.redraw.ensures
-          a.out-confirmed.now c.copy.new.1.0 a.out-full.now c.copy_bytes.new.1.0 a.out-corners.now c.copy-2.new.1.0 a.out-altered.now c.copy_bytes-2.new.1.0
+      λ M l at f hc hf hn ha. finished f c.commit-after.new.cells c.commit-after.result c.if-after-gt-CELLS.used c.commit-after.ensures
+          (λ h. elim c.if-after-gt-CELLS.branch [ then-after-gt-CELLS w ↦ absurd (omega arith) | else-after-gt-CELLS w ↦ w.used-is ])
+          g.points g.statuses g.blockers g.pairs a.reach at c.redraw.ensures
+          a.out_confirmed.now c.copy.new.to a.out_full.now c.copy_bytes.new.to a.out_corners.now c.copy-2.new.to a.out_altered.now c.copy_bytes-2.new.to
           hc hf hn ha c.copy.ensures c.copy_bytes.ensures c.copy-2.ensures c.copy_bytes-2.ensures,
     )

@@ -1,5 +1,4 @@
 use mathlib.Core.Path.{refl}
-use borrow.Author.Rules.{rules}
 use Rattle.visibility.proofs.change.refused.Goals as goal
 
 -- `change::refused` is the number, and zeros. Assumes nothing.

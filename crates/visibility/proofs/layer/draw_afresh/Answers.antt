@@ -9,16 +9,16 @@ use borrow.Author.Rules.{rules}
 use Rattle.visibility.proofs.layer.draw_afresh.Goals as goal
 
 pub slice_bounds-draw_pairs-end : goal.slice_bounds-draw_pairs-end
-slice_bounds-draw_pairs-end c = let s = start c in sym (length-take-le s.args.n s.args.present.now (omega (arith, s.pre)))
+slice_bounds-draw_pairs-end c = let s = c in sym (length-take-le s.args.n s.args.present.now (omega (arith, s.requires)))
 
 pub slice_bounds-draw_pairs-end-2 : goal.slice_bounds-draw_pairs-end-2
-slice_bounds-draw_pairs-end-2 c = let s = start c in sym (length-take-le s.args.n s.args.moods.now (omega (arith, s.pre)))
+slice_bounds-draw_pairs-end-2 c = let s = c in sym (length-take-le s.args.n s.args.moods.now (omega (arith, s.requires)))
 
 pub draw_pairs-requires : goal.draw_pairs-requires
 draw_pairs-requires c =
-    let s = start c in
-    let h = c.greater-rows.ensures.2 64 s.pre.0 s.pre.1 in
-    omega (arith, h, s.pre.4)
+    let s = c in
+    let h = c.greater-rows.ensures.2 64 s.requires.0 s.requires.1 in
+    omega (arith, h, s.requires.4)
 
 pub returns : goal.returns
 returns c =
@@ -29,5 +29,5 @@ returns c =
     record {
       drawn = c.draw_points.ensures ch S [] at w;
       filled = c.draw_pairs.ensures ch S P Q v (omega (arith, w.number, h.0)) (none_pairs P none) (none_named P none)
-          (rows_more a.before Q a.pairs.now rows c.greater-rows.result h.1 (h.2 64 c.pre.0 c.pre.1));
+          (rows_more a.before Q a.pairs.now rows c.greater-rows.result h.1 (h.2 64 c.requires.0 c.requires.1));
     }

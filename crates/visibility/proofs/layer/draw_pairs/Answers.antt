@@ -9,10 +9,10 @@ use borrow.Author.Rules.{rules}
 use Rattle.visibility.proofs.layer.draw_pairs.Goals as goal
 
 pub slice_bounds-clear-end-2 : goal.slice_bounds-clear-end-2
-slice_bounds-clear-end-2 c = sym (length-take-le (64 * c.args.rows) c.args.pairs.now c.pre.1)
+slice_bounds-clear-end-2 c = sym (length-take-le (64 * c.args.rows) c.args.pairs.now c.requires.1)
 
 pub returns : goal.returns
 returns c = λ ch S P Q seeing few pairs named w.
     let a = c.args in
-    rows_drawn a.rows Q a.pairs.now w (pair_at (tests a.size a.radius) a.cells.now ch P S) c.clear.new.0 c.join_pairs.new.1.1.1.1.1.1.1.1.0 (length S) c.clear.ensures few
+    rows_drawn a.rows Q a.pairs.now w (pair_at (tests a.size a.radius) a.cells.now ch P S) c.clear.new.t c.join_pairs.new.out (length S) c.clear.ensures few
     (c.join_pairs.ensures ch S P seeing pairs named)

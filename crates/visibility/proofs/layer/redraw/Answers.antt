@@ -7,16 +7,16 @@ use borrow.Author.Rules.{rules}
 use Rattle.visibility.proofs.layer.redraw.Goals as goal
 
 pub slice_bounds-redraw_pairs-end : goal.slice_bounds-redraw_pairs-end
-slice_bounds-redraw_pairs-end c = let s = start c in sym (length-take-le s.args.n s.args.present.now (omega (arith, s.pre)))
+slice_bounds-redraw_pairs-end c = let s = c in sym (length-take-le s.args.n s.args.present.now (omega (arith, s.requires)))
 
 pub slice_bounds-redraw_pairs-end-2 : goal.slice_bounds-redraw_pairs-end-2
-slice_bounds-redraw_pairs-end-2 c = let s = start c in sym (length-take-le s.args.n s.args.moods.now (omega (arith, s.pre)))
+slice_bounds-redraw_pairs-end-2 c = let s = c in sym (length-take-le s.args.n s.args.moods.now (omega (arith, s.requires)))
 
 pub redraw_pairs-requires : goal.redraw_pairs-requires
 redraw_pairs-requires c =
-    let s = start c in
-    let e = length-take-le s.args.n s.args.present.now (omega (arith, s.pre)) in
-    omega (arith, s.pre, e)
+    let s = c in
+    let e = length-take-le s.args.n s.args.present.now (omega (arith, s.requires)) in
+    omega (arith, s.requires, e)
 
 pub returns : goal.returns
 returns c =

@@ -8,17 +8,17 @@ use borrow.Author.Rules.{rules}
 use Rattle.visibility.proofs.layer.replace_pairs.Goals as goal
 
 pub slice_bounds-copy-end-2 : goal.slice_bounds-copy-end-2
-slice_bounds-copy-end-2 c = sym (length-take-le (length c.args.kept.now) c.args.pairs.now c.pre.3)
+slice_bounds-copy-end-2 c = sym (length-take-le (length c.args.kept.now) c.args.pairs.now c.requires.3)
 
 pub draw_pairs-requires : goal.draw_pairs-requires
 draw_pairs-requires c =
-    let s = start c in
-    let h = c.greater-rows.ensures.2 64 s.pre.0 s.pre.1 in
-    omega (arith, h, s.pre.4)
+    let s = c in
+    let h = c.greater-rows.ensures.2 64 s.requires.0 s.requires.1 in
+    omega (arith, h, s.requires.4)
 
 pub returns : goal.returns
 returns c = λ ch S P seeing named w.
     let a = c.args in
     let h = c.greater-rows.ensures in
-    c.draw_pairs.ensures ch S P P seeing (omega (arith, (seeing_fits seeing).count, h.0)) (rows_copied a.count P a.pairs.now w a.kept.now c.copy.last.1.0 c.pre.2 c.pre.3 c.copy.ensures) named
-    (rows_more a.count P a.pairs.now w c.greater-rows.result h.1 (h.2 64 c.pre.0 c.pre.1))
+    c.draw_pairs.ensures ch S P P seeing (omega (arith, (seeing_fits seeing).count, h.0)) (rows_copied a.count P a.pairs.now w a.kept.now c.copy.new.to c.requires.2 c.requires.3 c.copy.ensures) named
+    (rows_more a.count P a.pairs.now w c.greater-rows.result h.1 (h.2 64 c.requires.0 c.requires.1))

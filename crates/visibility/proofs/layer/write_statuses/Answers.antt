@@ -1,8 +1,5 @@
-use Prim.Native.Nat.{◌-◌}
 use native.Mathlib.Omega.{arith}
-use lib.ListN.{length}
-use borrow.Author.Rules.{rules}
-use Rattle.visibility.proofs.RedrawLaws.{Writing, writing_done, writing_more, writing_none}
+use Rattle.visibility.proofs.RedrawLaws.{writing_done, writing_more, writing_none}
 use Rattle.visibility.proofs.layer.write_statuses.Goals as goal
 
 pub loop-i-init : goal.loop-i-init

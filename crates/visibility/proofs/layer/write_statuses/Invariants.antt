@@ -1,8 +1,6 @@
 use Prim.Native.Nat.{◌-◌}
-use native.Mathlib.Omega.{arith}
 use lib.ListN.{length}
-use borrow.Author.Rules.{rules}
-use Rattle.visibility.proofs.RedrawLaws.{Writing, writing_done, writing_more, writing_none}
+use Rattle.visibility.proofs.RedrawLaws.{Writing}
 use Rattle.visibility.proofs.layer.write_statuses.Given as goal
 
 -- `layer::write_statuses`: the first i are written. Assumes nothing.

@@ -1,5 +1,4 @@
 use mathlib.Core.Path.{refl}
-use borrow.Author.Rules.{rules}
 use Rattle.visibility.proofs.refusal.refused.Goals as goal
 
 -- `refusal::refused` is the number, and zeros. Assumes nothing.
