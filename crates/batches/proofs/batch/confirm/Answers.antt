@@ -1,4 +1,4 @@
-use Prim.Native.Nat.{◌/◌, ◌≤◌, zero-le}
+use Prim.Native.Nat.{◌/◌, zero-le}
 use native.Mathlib.Omega.{arith}
 use mathlib.Core.Path.{◌≡◌, refl}
 use lib.ListN.{length}
@@ -24,17 +24,21 @@ loop-i-init c = let a = c.args in listing_start a.cells.now a.batch.now a.out.no
 
 pub bounds-full-n : goal.bounds-full-n
 bounds-full-n c =
-    let room : let a = c.args in length a.batch.now / 3 ≤ length a.full.now = let a = c.args in c.if-full-batch.false in
     let a = c.args in
     let e : length c.loop-i.full ≡ length a.full.now = c.loop-i.invariant.numbers in
-    omega (arith, room)
+    omega (arith, c.if-full-batch.false)
 
+-- what was looked up of the entry at i is listed, or passed over
 pub loop-i-preserved : goal.loop-i-preserved
 loop-i-preserved c =
-    let looked : let a = c.args in Looked a.cells.now a.batch.now c.loop-i.i c.key_at-k.result c.full_at-on.result c.alters.result = record { there = c.loop-i-test.true; is_key = c.key_at-k.ensures; full = c.full_at-on.ensures; alters = c.alters.ensures } in
-    let room : let a = c.args in length a.batch.now / 3 ≤ length a.full.now = let a = c.args in c.if-full-batch.false in
-    let e = looked in
-    elim c.if-alters.branch [ then-alters w ↦ rw (w.out-is, w.full-is, w.n-is, w.flag.ensures) (listing_more e c.loop-i.invariant c.if-out-batch.false (room) w.if-alters.true) | else-alters w ↦ rw (w.out-is, w.full-is, w.n-is) (listing_same e c.loop-i.invariant w.if-alters.false) ]
+    let a = c.args in
+    let e : Looked a.cells.now a.batch.now c.loop-i.i c.key_at-k.result c.full_at-on.result c.alters.result = record {
+      there = c.loop-i-test.true;
+      is_key = c.key_at-k.ensures;
+      full = c.full_at-on.ensures;
+      alters = c.alters.ensures;
+    } in
+    elim c.if-alters.branch [ then-alters w ↦ rw (w.out-is, w.full-is, w.n-is, w.flag.ensures) (listing_more e c.loop-i.invariant c.if-out-batch.false c.if-full-batch.false w.if-alters.true) | else-alters w ↦ rw (w.out-is, w.full-is, w.n-is) (listing_same e c.loop-i.invariant w.if-alters.false) ]
 
 pub shape_of-out : goal.shape_of-out
 shape_of-out c = c.loop-i.invariant.cells
@@ -44,11 +48,10 @@ shape_of-full c = c.loop-i.invariant.numbers
 
 pub returns : goal.returns
 returns c =
-    let room : let a = c.args in length a.batch.now / 3 ≤ length a.full.now = let a = c.args in c.if-full-batch.false in
     let b = c.args.batch.now in
     let n : length (entries b) ≡ length b / 3 = entries_length b in (
       λ asc u o ho hf. listing_end c.loop-i.invariant c.loop-i-test.false asc (batch_ascends (entries b) u o),
       λ h. absurd (omega (arith, c.if-out-batch.false)),
-      λ h. absurd (omega (arith, room)),
+      λ h. absurd (omega (arith, c.if-full-batch.false)),
       omega (arith, c.loop-i.invariant.few, c.loop-i.invariant.inside),
     )

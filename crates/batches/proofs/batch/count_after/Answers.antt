@@ -8,10 +8,16 @@ use Rattle.batches.proofs.batch.count_after.Goals.{then-alters+then-full, then-a
 pub loop-i-init : goal.loop-i-init
 loop-i-init c = let a = c.args in counted_start a.cells.now a.batch.now
 
+-- what was looked up of the entry at i is counted, or passed over
 pub loop-i-preserved : goal.loop-i-preserved
 loop-i-preserved c =
-    let looked : let a = c.args in Looked a.cells.now a.batch.now c.loop-i.i c.key_at.result c.full_at-full.result c.alters.result = record { there = c.loop-i-test.true; is_key = c.key_at.ensures; full = c.full_at-full.ensures; alters = c.alters.ensures } in
-    let e = looked in
+    let a = c.args in
+    let e : Looked a.cells.now a.batch.now c.loop-i.i c.key_at.result c.full_at-full.result c.alters.result = record {
+      there = c.loop-i-test.true;
+      is_key = c.key_at.ensures;
+      full = c.full_at-full.ensures;
+      alters = c.alters.ensures;
+    } in
     elim c.if-alters.branch [
       | then-alters+then-full w ↦ rw (w.more-is, w.less-is) (counted_more e c.loop-i.invariant w.if-alters.true w.if-full.true)
       | then-alters+else-full w ↦ rw (w.more-is, w.less-is) (counted_less e c.loop-i.invariant w.if-alters.true w.if-full.false)

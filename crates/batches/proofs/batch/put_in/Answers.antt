@@ -14,7 +14,7 @@ loop-i-preserved c =
     let h = c.loop-i-test.true in
     elim c.if-full-i-ne0.branch [
       | then-full-i-ne0 w ↦ rw (w.cells-is, w.used-is)
-          (writing_more c.loop-i.invariant w.insert-used.new.t w.insert-used.result h (means_full w.if-full-i-ne0.true) w.cells-1.given (λ T f. insert_writes c.loop-i.cells c.loop-i.used k w.insert-used.new.t w.insert-used.result w.insert-used.ensures T (f refl)))
+          (writing_more c.loop-i.invariant w.insert-used.new.t w.insert-used.result h (means_full w.if-full-i-ne0.true) w.insert-used.auto.t (λ T f. insert_writes c.loop-i.cells c.loop-i.used k w.insert-used.new.t w.insert-used.result w.insert-used.ensures T (f refl)))
       | else-full-i-ne0 w ↦ rw (w.cells-is, w.used-is) (writing_same c.loop-i.invariant h (means_free w.if-full-i-ne0.false))
     ]
 

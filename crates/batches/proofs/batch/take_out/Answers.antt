@@ -13,7 +13,7 @@ loop-i-preserved c =
     let h = c.loop-i-test.true in
     elim c.if-full-i-eq0.branch [
       | then-full-i-eq0 w ↦ rw (w.cells-is, w.used-is)
-          (writing_more c.loop-i.invariant w.remove-used.new.t w.remove-used.result h (means_free w.if-full-i-eq0.true) w.cells-1.given (λ T f. remove_writes c.loop-i.cells c.loop-i.used k w.remove-used.new.t w.remove-used.result w.remove-used.ensures T))
+          (writing_more c.loop-i.invariant w.remove-used.new.t w.remove-used.result h (means_free w.if-full-i-eq0.true) w.remove-used.auto.t (λ T f. remove_writes c.loop-i.cells c.loop-i.used k w.remove-used.new.t w.remove-used.result w.remove-used.ensures T))
       | else-full-i-eq0 w ↦ rw (w.cells-is, w.used-is) (writing_same c.loop-i.invariant h (means_full w.if-full-i-eq0.false))
     ]
 

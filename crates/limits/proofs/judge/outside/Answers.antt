@@ -18,20 +18,20 @@ returns-then-off_map c =
     let x-is : c.off_map.result ≡ off_map max_coordinate (item c.args.batch.now c.loop-i.i) = c.off_map.ensures ∙ ap (off_map max_coordinate) (back (item c.args.batch.now c.loop-i.i) c.off_map-arg-1.given) in
     let b = c.args.batch.now in
     let i = c.loop-i.i in
-    sym (c.loop-i.invariant.1 ∙ outside_next b i c.off_map.result (off_map max_coordinate (item b (i + 1))) (omega arith) (x-is) refl ∙ rw c.if-off_map.true refl)
+    sym (c.loop-i.invariant.1 ∙ outside_next b i c.off_map.result (off_map max_coordinate (item b (i + 1))) (omega arith) x-is refl ∙ rw c.if-off_map.true refl)
 
 pub returns-then-off_map-2 : goal.returns-then-off_map-2
 returns-then-off_map-2 c =
     let x-is : c.off_map.result ≡ off_map max_coordinate (item c.args.batch.now c.loop-i.i) = c.off_map.ensures ∙ ap (off_map max_coordinate) (back (item c.args.batch.now c.loop-i.i) c.off_map-arg-1.given) in
     let y-is : c.off_map-in-loop-i.result ≡ off_map max_coordinate (item c.args.batch.now (c.loop-i.i + 1)) = c.off_map-in-loop-i.ensures ∙ ap (off_map max_coordinate) (back (item c.args.batch.now (c.loop-i.i + 1)) c.off_map-arg-in-loop-i-1.given) in
-    let seen : outside (entries (drop c.loop-i.i c.args.batch.now)) ≡ c.off_map-in-loop-i.result || outside (entries (drop (c.loop-i.i + 3) c.args.batch.now)) = outside_next c.args.batch.now c.loop-i.i c.off_map.result c.off_map-in-loop-i.result (omega arith) (x-is) (y-is) ∙ rw c.if-off_map.false refl in
+    let seen : outside (entries (drop c.loop-i.i c.args.batch.now)) ≡ c.off_map-in-loop-i.result || outside (entries (drop (c.loop-i.i + 3) c.args.batch.now)) = outside_next c.args.batch.now c.loop-i.i c.off_map.result c.off_map-in-loop-i.result (omega arith) x-is y-is ∙ rw c.if-off_map.false refl in
     sym (c.loop-i.invariant.1 ∙ seen ∙ rw c.if-off_map-2.true refl)
 
 pub loop-i-preserved : goal.loop-i-preserved
 loop-i-preserved c =
     let x-is : c.off_map.result ≡ off_map max_coordinate (item c.args.batch.now c.loop-i.i) = c.off_map.ensures ∙ ap (off_map max_coordinate) (back (item c.args.batch.now c.loop-i.i) c.off_map-arg-1.given) in
     let y-is : c.off_map-in-loop-i.result ≡ off_map max_coordinate (item c.args.batch.now (c.loop-i.i + 1)) = c.off_map-in-loop-i.ensures ∙ ap (off_map max_coordinate) (back (item c.args.batch.now (c.loop-i.i + 1)) c.off_map-arg-in-loop-i-1.given) in
-    let seen : outside (entries (drop c.loop-i.i c.args.batch.now)) ≡ c.off_map-in-loop-i.result || outside (entries (drop (c.loop-i.i + 3) c.args.batch.now)) = outside_next c.args.batch.now c.loop-i.i c.off_map.result c.off_map-in-loop-i.result (omega arith) (x-is) (y-is) ∙ rw c.if-off_map.false refl in
+    let seen : outside (entries (drop c.loop-i.i c.args.batch.now)) ≡ c.off_map-in-loop-i.result || outside (entries (drop (c.loop-i.i + 3) c.args.batch.now)) = outside_next c.args.batch.now c.loop-i.i c.off_map.result c.off_map-in-loop-i.result (omega arith) x-is y-is ∙ rw c.if-off_map.false refl in
     (omega arith, c.loop-i.invariant.1 ∙ seen ∙ rw c.if-off_map-2.false refl)
 
 pub returns : goal.returns

@@ -1,37 +1,31 @@
-use Rattle.std.proofs.Common.{refl}
+use Rattle.held.specs.Holds.{tables_of}
 use Rattle.visibility.specs.Change.{Lent}
-use Rattle.held.specs.Holds.{Tables, tables_of}
 use Rattle.mapfile.proofs.BatchLaws.{batch_refused, batch_taken, front, front_is, front_long, front_whole}
 use Rattle.mapfile.proofs.field.take_batch.Goals as goal
 
+-- `field::take_batch`: the entries as numbers, then refused, or on to the next. Assumes nothing.
 pub slice_bounds-numbers-end : goal.slice_bounds-numbers-end
-slice_bounds-numbers-end c =
-    front c.args.value.now c.numbers_of-n.result _ c.numbers_of-n.ensures c.numbers_of-n.kept.1.0
+slice_bounds-numbers-end c = front c.args.value.now c.numbers_of-n.result _ c.numbers_of-n.ensures c.numbers_of-n.auto.out
 
 pub slice_bounds-change_cells-end : goal.slice_bounds-change_cells-end
-slice_bounds-change_cells-end c =
-    front_long c.args.value.now c.numbers_of-n.result _ c.numbers_of-n.ensures c.numbers_of-n.kept.1.0
+slice_bounds-change_cells-end c = front_long c.args.value.now c.numbers_of-n.result _ c.numbers_of-n.ensures c.numbers_of-n.auto.out
 
 pub returns-then-changed-ne0 : goal.returns-then-changed-ne0
 returns-then-changed-ne0 c l f =
-    let numbered : tie.After-numbers-of = c in
-    let left : Lent = let k = c.change_cells-changed.new.1 in
-    let o = k.1.1.1.1.1.1 in
-    record { tables = tables_of k.0 k.1.0 k.1.1.0 k.1.1.1.0 k.1.1.1.1.0; confirmed = o.0; full = o.1.0; corners = o.1.1.0; altered = o.1.1.1.0 } in
-    let n = numbered in
-    let s = n.before.before.before.before.before.before.before.before in
-    let v = s.args.value.now in
-    batch_refused s.args.reader v s.args.used _ (lent s) (left) c.change_cells-changed.result c.change_cells-changed.ensures
-    (front_whole v n.Numbers-of.result _ n.Numbers-of.ensures n.Numbers-of.kept.1.0) (front_is v n.Numbers-of.result _ n.Numbers-of.ensures n.Numbers-of.kept.1.0 l f) c.if-changed-ne0.true
+    let a = c.args in
+    let n = c.numbers_of-n in
+    let g = c.change_cells-changed in
+    let k = g.new in
+    let left : Lent = record { tables = tables_of k.cells k.points k.statuses k.blockers k.pairs; confirmed = k.confirmed; full = k.full; corners = k.corners; altered = k.altered } in
+    batch_refused a.reader a.value.now a.used _ (tables_of a.cells.now a.points.now a.statuses.now a.blockers.now a.pairs.now) left g.result g.ensures
+    (front_whole a.value.now n.result _ n.ensures n.auto.out) (front_is a.value.now n.result _ n.ensures n.auto.out l f) c.if-changed-ne0.true
 
 pub returns : goal.returns
 returns c l f =
-    let numbered : tie.After-numbers-of = c in
-    let left : Lent = let k = c.change_cells-changed.new.1 in
-    let o = k.1.1.1.1.1.1 in
-    record { tables = tables_of k.0 k.1.0 k.1.1.0 k.1.1.1.0 k.1.1.1.1.0; confirmed = o.0; full = o.1.0; corners = o.1.1.0; altered = o.1.1.1.0 } in
-    let n = numbered in
-    let s = n.before.before.before.before.before.before.before.before in
-    let v = s.args.value.now in
-    batch_taken s.args.reader v s.args.used _ (lent s) (left) c.change_cells-changed.result c.change_cells-changed.ensures
-    (front_whole v n.Numbers-of.result _ n.Numbers-of.ensures n.Numbers-of.kept.1.0) (front_is v n.Numbers-of.result _ n.Numbers-of.ensures n.Numbers-of.kept.1.0 l f) c.if-changed-ne0.false c.onward-next.result c.onward-next.ensures
+    let a = c.args in
+    let n = c.numbers_of-n in
+    let g = c.change_cells-changed in
+    let k = g.new in
+    let left : Lent = record { tables = tables_of k.cells k.points k.statuses k.blockers k.pairs; confirmed = k.confirmed; full = k.full; corners = k.corners; altered = k.altered } in
+    batch_taken a.reader a.value.now a.used _ (tables_of a.cells.now a.points.now a.statuses.now a.blockers.now a.pairs.now) left g.result g.ensures
+    (front_whole a.value.now n.result _ n.ensures n.auto.out) (front_is a.value.now n.result _ n.ensures n.auto.out l f) c.if-changed-ne0.false c.onward-next.result c.onward-next.ensures

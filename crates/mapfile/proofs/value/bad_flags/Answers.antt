@@ -1,5 +1,4 @@
-use Rattle.std.proofs.Common.{◌-◌, length, arith}
-use Rattle.mapfile.proofs.ValueLaws.{Good, good_all, good_more, good_not, good_start}
+use Rattle.mapfile.proofs.ValueLaws.{good_all, good_more, good_not, good_start}
 use Rattle.mapfile.proofs.value.bad_flags.Goals as goal
 
 pub loop-at-init : goal.loop-at-init

@@ -1,5 +1,5 @@
-use Rattle.std.proofs.Common.{◌-◌, length, arith}
-use Rattle.mapfile.proofs.ValueLaws.{Good, good_all, good_more, good_not, good_start}
+use Rattle.std.proofs.Common.{◌-◌, length}
+use Rattle.mapfile.proofs.ValueLaws.{Good}
 use Rattle.mapfile.proofs.value.bad_flags.Given as goal
 
 -- `mapfile::value::bad_flags`: the entries passed have good flags. Assumes nothing.

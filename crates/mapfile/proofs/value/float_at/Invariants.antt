@@ -1,6 +1,5 @@
-use Rattle.std.proofs.Common.{◌-◌, ◌^◌, ◌<◌, ◌≤◌, ◌⊎◌, length, ap, ◌∙◌, inl, inr, ⊎_elim, arith, rules, ltb-false, ltb-true}
-use lib.Ieee.{binary64, of_bits}
-use Rattle.mapfile.proofs.ValueLaws.{Held, all_read, none_read, one_read, room}
+use Rattle.std.proofs.Common.{◌-◌}
+use Rattle.mapfile.proofs.ValueLaws.{Held}
 use Rattle.mapfile.proofs.value.float_at.Given as goal
 
 -- `mapfile::value::float_at`: what the bytes not yet read make of the pattern so far stays the pattern. Assumes nothing.

@@ -1,4 +1,4 @@
-use Rattle.std.proofs.Common.{◌≡◌, ℕ, ◌+◌, ◌*◌, ◌^◌, ◌<◌, List, take, drop, arith, rules}
+use Rattle.std.proofs.Common.{◌≡◌, ℕ, ◌+◌, ◌*◌, ◌^◌, ◌<◌, List, take, drop, arith}
 use Rattle.model.specs.MapFile.{big_endian}
 use Rattle.mapfile.proofs.ValueLaws.{four, int_fits, int_high, int_low}
 use Rattle.mapfile.proofs.value.int_at.Goals as goal

@@ -1,6 +1,5 @@
-use Rattle.std.proofs.Common.{◌+◌, ◌-◌, ◌*◌, ◌^◌, ◌<◌, ◌≤◌, length, pos, ap, ◌∙◌, arith, length-set, w64, SFits, rules}
-use mir.ValLaws.{to_z-of_z}
-use Rattle.mapfile.proofs.NumberLaws.{Writing, entry_room, lacks_room_lem, writing_done, writing_more, writing_none}
+use Rattle.std.proofs.Common.{◌-◌, length}
+use Rattle.mapfile.proofs.NumberLaws.{Writing}
 use Rattle.mapfile.proofs.value.numbers_of.Given as goal
 
 -- `value::numbers_of`: the entries passed are written. Assumes nothing.

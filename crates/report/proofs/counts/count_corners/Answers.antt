@@ -1,4 +1,3 @@
-use borrow.Author.Rules.{rules}
 use native.Mathlib.Nat.{le_refl}
 use mathlib.Core.Path.{◌∙◌}
 use Rattle.corner.specs.Changes.{numbered}

@@ -11,5 +11,5 @@ use Rattle.table.proofs.column.begin.Goals as goal
 pub returns : goal.returns
 returns c =
     let s = c.args in
-    let b : (i : ℕ) → get_or s.t.now i 0 < s.x * W = λ i. omega (arith, c.shared_slice_known-1.given i) in
+    let b : (i : ℕ) → get_or s.t.now i 0 < s.x * W = λ i. omega (arith, c.type_inv.t i) in
     (omega arith, λ a. sym (rank_all (s.x * W) s.t.now (all_from (λ k. k < s.x * W) s.t.now b)))

@@ -12,7 +12,7 @@ use Rattle.table.proofs.column.column.Goals as goal
 -- `column::column`: two searches, the second from where the column begins. Assumes nothing.
 pub returns-then-x-ge-COLUMN : goal.returns-then-x-ge-COLUMN
 returns-then-x-ge-COLUMN c =
-    λ a. column_none c.args.x c.args.t.now c.if-x-ge-COLUMN.true (λ i. (c.shared_slice_known-1.given i).fits)
+    λ a. column_none c.args.x c.args.t.now c.if-x-ge-COLUMN.true (λ i. (c.type_inv.t i).fits)
 
 pub returns : goal.returns
 returns c =

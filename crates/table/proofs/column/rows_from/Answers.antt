@@ -17,10 +17,10 @@ returns-then-col-eq0 c =
     λ x a i. elim c.then-col-eq0.branch [ then-col-eq0-via-then-col-eq0 w ↦ rows_empty s.y s.col.now w.if-col-eq0.true | then-col-eq0-via-else-col-eq0+then-y-ge-COLUMN w ↦ rows_none s.y s.col.now w.if-y-ge-COLUMN.true ]
 
 pub overflow_mul-col : goal.overflow_mul-col
-overflow_mul-col c = omega (arith, c.shared_slice_known-2-1.given 0)
+overflow_mul-col c = omega (arith, c.type_inv.col 0)
 
 pub overflow_add-col : goal.overflow_add-col
-overflow_add-col c = omega (arith, c.shared_slice_known-2-1.given 0, c.if-y-ge-COLUMN.false)
+overflow_add-col c = omega (arith, c.type_inv.col 0, c.if-y-ge-COLUMN.false)
 
 pub returns : goal.returns
 returns c =
