@@ -1,3 +1,5 @@
 // How many blocks occupied cells make.
+#![tactic(auto)]
+
 pub mod count;
 mod forest;

@@ -1,4 +1,4 @@
--- The listing of the map file that a descriptor gives, in a lent buffer (RULES 6). Definitions only.
+-- The listing of the map file that a reader gives, in a lent buffer (RULES 6). Definitions only.
 use Rattle.std.specs.Prelude.{ℕ, ◌^◌, ◌<◌, ◌≡◌, true, false, List, [], ◌∷◌, length}
 use Rattle.answers.specs.Asking.{refused_with}
 use Rattle.report.specs.Filed.{Listed}

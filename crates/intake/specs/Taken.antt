@@ -1,4 +1,4 @@
--- Between functions: the map that a descriptor gives, in lent tables (RULES 5). What bytes come is open; the rest is the model's reading of them. Definitions only.
+-- Between functions: the map that a reader gives, in lent tables (RULES 5). What bytes come is open; the rest is the model's reading of them. Definitions only.
 use Rattle.std.specs.Prelude.{ℕ, ◌^◌, ◌<◌, ◌≡◌, true, false, List, [], ◌∷◌, length}
 use Rattle.held.specs.Holds.{Tables, needs}
 use Rattle.mapfile.specs.Feeds.{EndsAs, Feeds}

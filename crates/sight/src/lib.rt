@@ -1,4 +1,6 @@
 // What blocks points and pairs after an update.
+#![tactic(auto)]
+
 pub mod blocker;
 pub mod pair;
 mod within;

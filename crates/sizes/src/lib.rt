@@ -1,5 +1,7 @@
 //! Every limit by one name, for code that compares with it or has an array of that length. The model has the same numbers (crates/model/specs/Limits.antt):
 //! contracts are stated with those, so code that compares with another number does not meet its contract. docs/RULES.md, 3, says what each means.
+#![tactic(auto)]
+
 // Occupied cells of a map, and places of the table of cells.
 pub const CELLS: usize = 1024;
 

@@ -1,5 +1,7 @@
 // Points, pairs and blockers over a floor: opening a map, batches of cells, changes of the radius. A map is a small struct by
 // value and five lent tables.
+#![tactic(auto)]
+
 pub mod change;
 mod judge;
 mod layer;

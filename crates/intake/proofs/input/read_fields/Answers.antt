@@ -16,12 +16,12 @@ loop-window-preserved g c =
     let small : length c.args.buffer.now < 2 ^ 63 = omega arith in
     let turned = turn_more c.args.buffer.now {t' = t} c.requires small i.long i.within i.going f c.one_field-reading.ensures m.next m.used m.is (omega arith) in
     let l : SameLong (tables_of c.loop-window.cells c.loop-window.points c.loop-window.statuses c.loop-window.blockers c.loop-window.pairs) t =
-        record { cells = k.cells; points = k.points; statuses = k.statuses; blockers = k.blockers; pairs = k.pairs } in
+    record { cells = k.cells; points = k.points; statuses = k.statuses; blockers = k.blockers; pairs = k.pairs } in
     record {
       long = omega arith;
       same = same_both i.same l;
       within = (turned.0, f.inside.1);
-      going = turned.1
+      going = turned.1;
     }
 
 pub returns-in-Refused : goal.returns-in-Refused

@@ -12,7 +12,7 @@ invariant-loop-window g l = record {
   same : SameLong (tables_of l.fn.cells l.fn.points l.fn.statuses l.fn.blockers l.fn.pairs) (tables_of l.cells l.points l.statuses l.blockers l.pairs);
   within : Within l.window l.buffer;
   going : Going (length l.fn.buffer) (tables_of l.fn.cells l.fn.points l.fn.statuses l.fn.blockers l.fn.pairs) l.reader
-      (tables_of l.cells l.points l.statuses l.blockers l.pairs) (bytes_of l.window l.buffer) l.window.ended l.room
+      (tables_of l.cells l.points l.statuses l.blockers l.pairs) (bytes_of l.window l.buffer) l.window.ended l.room;
 }
 
 abbrev pub decreases-loop-window : goal.decreases-loop-window
