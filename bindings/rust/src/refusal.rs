@@ -58,15 +58,23 @@ impl Refusal {
         Refusal::MalformedFile,
     ];
 
-    /// Nothing for 0 alone, which is no refusal.
+    /// Nothing for 0 alone, which is no refusal. No call on a map answers 10.
     pub(crate) fn check(number: u8) -> Result<(), Refusal> {
         if number == 0 {
             return Ok(());
         }
         let mut named = Refusal::NAMED.into_iter();
         Err(named
-            .find(|one| one.number() == number)
+            .find(|one| one.number() == number && *one != Refusal::MalformedFile)
             .unwrap_or(Refusal::Unknown(number)))
+    }
+
+    /// The same where a map file was read, which 10 is about.
+    pub(crate) fn check_file(number: u8) -> Result<(), Refusal> {
+        if number == Refusal::MalformedFile.number() {
+            return Err(Refusal::MalformedFile);
+        }
+        Refusal::check(number)
     }
 
     /// The number by which the rules, the C header and the programs name this refusal.
@@ -157,7 +165,7 @@ mod tests {
     #[test]
     fn the_words_are_those_of_the_c_header() {
         let table = include_str!("../../why.txt");
-        let words = |number: u8| match Refusal::check(number) {
+        let words = |number: u8| match Refusal::check_file(number) {
             Ok(()) => "done, not refused".into(),
             Err(refusal) => refusal.to_string(),
         };
@@ -169,7 +177,8 @@ mod tests {
     #[test]
     fn a_number_without_a_name_is_an_error() {
         assert_eq!(Refusal::check(9), Err(Refusal::ShortBuffer));
-        assert_eq!(Refusal::check(10), Err(Refusal::MalformedFile));
-        assert_eq!(Refusal::check(11), Err(Refusal::Unknown(11)));
+        assert_eq!(Refusal::check(10), Err(Refusal::Unknown(10)));
+        assert_eq!(Refusal::check_file(10), Err(Refusal::MalformedFile));
+        assert_eq!(Refusal::check_file(11), Err(Refusal::Unknown(11)));
     }
 }

@@ -59,7 +59,7 @@ impl Map {
             &mut t.pairs,
         );
         let (field, map) = (opened.field, opened.map);
-        Refusal::check(opened.refusal).map_err(|refusal| FileRefusal { refusal, field })?;
+        Refusal::check_file(opened.refusal).map_err(|refusal| FileRefusal { refusal, field })?;
         Ok(Map { map, tables })
     }
 
