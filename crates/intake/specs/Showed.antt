@@ -1,4 +1,4 @@
--- The listing that was written to a writer (RULES 6.3). No contract can speak of what is written; this speaks of the lent buffer whose front it is. Definitions only.
+-- The listing that was written to a writer (RULES 6.3). What the writer takes is not said; this speaks of the lent buffer, whose front is written. Definitions only.
 use Rattle.std.specs.Prelude.{ℕ, List}
 use Rattle.intake.specs.Shown.{ShownInput}
 use Rattle.intake.specs.declared.listing.Shown.{Shown}
