@@ -41,7 +41,7 @@ accepted lent m more k e z =
     (tables.long_enough lent p.0, p.1, p.2)
 
 -- the refusal, of what the tests said
-abbrev said : Bool → Map → ℕ → ℕ
+abbrev pub said : Bool → Map → ℕ → ℕ
 said s m w = first_on order (word_on w (on_map s m []))
 
 pub asked_as : (n : ℕ) (s s' : Bool) (m : Map) (w : ℕ) (more : Dues) → n ≡ said s m w → s ≡ s' → w ≡ word_on 0 more → n ≡ refuse_map s' m more

@@ -1,4 +1,3 @@
-use borrow.Author.Rules.{rules}
 use mathlib.Core.Path.{subst}
 use Rattle.answers.specs.Asks.{AsksNumbered}
 use Rattle.question.specs.declared.numbered.Numbered.{Numbered}

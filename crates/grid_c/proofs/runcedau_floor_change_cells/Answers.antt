@@ -3,7 +3,6 @@ use native.Mathlib.Omega.{arith}
 use mathlib.Core.Path.{refl, sym}
 use lib.ListN.{length}
 use Rattle.grid_c.proofs.CalledLaws.{counts_set, counts_stay, set_within}
-use borrow.Author.Rules.{rules}
 use Rattle.grid_c.proofs.runcedau_floor_change_cells.Goals as goal
 
 pub returns-then-counts-lt3 : goal.returns-then-counts-lt3

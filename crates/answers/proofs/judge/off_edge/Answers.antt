@@ -1,6 +1,5 @@
 use mathlib.Core.Path.{refl}
 use mathlib.Core.List.{[]}
-use borrow.Author.Rules.{rules}
 use Rattle.limits.proofs.WordLaws.{due_added, none_added}
 use Rattle.answers.proofs.judge.off_edge.Goals as goal
 

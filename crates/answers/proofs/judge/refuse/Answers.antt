@@ -1,6 +1,5 @@
 use mathlib.Core.Path.{refl, ap, ◌∙◌}
 use mathlib.Core.List.{[]}
-use borrow.Author.Rules.{rules}
 use Rattle.model.specs.Refusal.{order}
 use Rattle.limits.specs.Words.{first_on}
 use Rattle.limits.proofs.WordLaws.{due_added, none_added}

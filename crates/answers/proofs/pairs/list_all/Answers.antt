@@ -1,7 +1,5 @@
-use Prim.Native.Nat.{◌-◌}
 use lib.ListN.{length}
-use borrow.Author.Rules.{rules}
-use Rattle.answers.proofs.PairLaws.{AllTo, all_done, all_first, all_row, counting_room}
+use Rattle.answers.proofs.PairLaws.{all_done, all_first, all_row, counting_room}
 use Rattle.answers.proofs.pairs.list_all.Goals as goal
 
 pub loop-i-init : goal.loop-i-init

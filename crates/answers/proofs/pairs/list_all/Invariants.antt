@@ -1,7 +1,6 @@
 use Prim.Native.Nat.{◌-◌}
 use lib.ListN.{length}
-use borrow.Author.Rules.{rules}
-use Rattle.answers.proofs.PairLaws.{AllTo, all_done, all_first, all_row, counting_room}
+use Rattle.answers.proofs.PairLaws.{AllTo}
 use Rattle.answers.proofs.pairs.list_all.Given as goal
 
 -- `pairs::list_all`: row by row. Assumes nothing.

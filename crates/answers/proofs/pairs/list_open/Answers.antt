@@ -1,7 +1,5 @@
-use Prim.Native.Nat.{◌-◌}
 use lib.ListN.{length}
-use borrow.Author.Rules.{rules}
-use Rattle.answers.proofs.PairLaws.{OpenTo, counting_room, open_end, open_more, open_skip, open_start}
+use Rattle.answers.proofs.PairLaws.{counting_room, open_end, open_more, open_skip, open_start}
 use Rattle.answers.proofs.pairs.list_open.Goals as goal
 use Rattle.answers.proofs.pairs.list_open.Goals.{else-blockers-i-eq0, then-blockers-i-eq0}
 

@@ -1,8 +1,6 @@
 use Prim.Native.Nat.{◌-◌}
-use mathlib.Core.Logic.{⊎_elim}
 use lib.ListN.{length}
-use borrow.Author.Rules.{rules}
-use Rattle.answers.proofs.PairLaws.{OpenTo, counting_room, open_end, open_more, open_skip, open_start}
+use Rattle.answers.proofs.PairLaws.{OpenTo}
 use Rattle.answers.proofs.pairs.list_open.Given as goal
 
 -- `pairs::list_open`: row by row, but for the rows of blocked points. Assumes nothing.

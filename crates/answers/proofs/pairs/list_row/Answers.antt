@@ -1,21 +1,6 @@
-use Prim.Native.Nat.{ℕ, ◌+◌, ◌-◌, ◌≤◌, ◌<◌}
-use lib.ListN.{length}
-use borrow.Author.Rules.{rules}
-use Rattle.answers.proofs.RowLaws.{RowTo, passing_room, row_blocked, row_clear, row_done, row_first, row_pass}
+use Rattle.answers.proofs.RowLaws.{row_blocked, row_clear, row_done, row_pass}
 use Rattle.answers.proofs.pairs.list_row.Goals as goal
 use Rattle.answers.proofs.pairs.list_row.Goals.{then-code-ne0, then-code-eq1, else-code-eq1, else-code-ne0}
-
-pub loop-j-init : goal.loop-j-init
-loop-j-init c = let a = c.args in row_first a.points.now a.pairs.now a.i a.count c.requires.0 a.lesser.now a.greater.now a.blocks.now
-
-pub bounds-lesser-n : goal.bounds-lesser-n
-bounds-lesser-n c = rw c.loop-j.invariant.ends.lesser.same (let l = c.loop-j in let a = c.args in passing_room (length a.points.now) a.i a.count l.n l.j c.loop-j-test.true l.invariant.at (length c.args.lesser.now) c.requires.3)
-
-pub bounds-greater-n : goal.bounds-greater-n
-bounds-greater-n c = rw c.loop-j.invariant.ends.greater.same (let l = c.loop-j in let a = c.args in passing_room (length a.points.now) a.i a.count l.n l.j c.loop-j-test.true l.invariant.at (length c.args.greater.now) c.requires.4)
-
-pub bounds-blocks-n : goal.bounds-blocks-n
-bounds-blocks-n c = rw c.loop-j.invariant.blocks.same (let l = c.loop-j in let a = c.args in passing_room (length a.points.now) a.i a.count l.n l.j c.loop-j-test.true l.invariant.at (length c.args.blocks.now) c.requires.5)
 
 pub loop-j-preserved : goal.loop-j-preserved
 loop-j-preserved c =

@@ -1,8 +1,6 @@
-use Prim.Native.Nat.{ℕ, ◌+◌, ◌-◌, ◌≤◌, ◌<◌}
-use mathlib.Core.Logic.{⊎_elim}
+use Prim.Native.Nat.{◌-◌}
 use lib.ListN.{length}
-use borrow.Author.Rules.{rules}
-use Rattle.answers.proofs.RowLaws.{RowTo, passing_room, row_blocked, row_clear, row_done, row_first, row_pass}
+use Rattle.answers.proofs.RowLaws.{RowTo}
 use Rattle.answers.proofs.pairs.list_row.Given as goal
 
 -- `pairs::list_row`: each later point in turn, written where there is a pair. Assumes nothing.

@@ -1,9 +1,6 @@
-use Prim.Native.Nat.{ℕ, ◌+◌, ◌-◌, ◌≤◌, ◌<◌}
-use mathlib.Core.Logic.{⊎_elim}
+use Prim.Native.Nat.{◌-◌}
 use lib.ListN.{length}
-use borrow.Author.Rules.{rules}
-use borrow.Author.Tests.{eqb-false, eqb-true}
-use Rattle.answers.proofs.RowLaws.{OpenRowTo, open_done, open_first, open_other, open_put, open_shut, passing_room}
+use Rattle.answers.proofs.RowLaws.{OpenRowTo}
 use Rattle.answers.proofs.pairs.open_row.Given as goal
 
 -- `pairs::open_row`: each later point in turn, written where the pair is open and nothing blocks that point. Assumes nothing.

@@ -1,12 +1,6 @@
-use Prim.Native.Nat.{◌-◌}
-use lib.ListN.{length}
-use borrow.Author.Rules.{rules}
-use Rattle.answers.proofs.PointLaws.{FreeTo, free_all, free_none, free_pass, free_put}
+use Rattle.answers.proofs.PointLaws.{free_all, free_pass, free_put}
 use Rattle.answers.proofs.points.write_free.Goals as goal
 use Rattle.answers.proofs.points.write_free.Goals.{else-blockers-i-eq0, then-blockers-i-eq0}
-
-pub loop-i-init : goal.loop-i-init
-loop-i-init c = let a = c.args in free_none a.points.now a.blockers.now a.out.now c.requires.1
 
 pub loop-i-preserved : goal.loop-i-preserved
 loop-i-preserved c =

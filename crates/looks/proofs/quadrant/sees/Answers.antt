@@ -1,6 +1,5 @@
 use mathlib.Core.Path.{ap, ◌∙◌}
 use mathlib.Core.Bool.{not}
-use borrow.Author.Rules.{rules}
 use Rattle.model.specs.Cell.{Dir}
 use Rattle.model.specs.Corner.{bit}
 use Rattle.looks.proofs.QuadrantLaws.{sees_column, sees_quadrant, sees_row}

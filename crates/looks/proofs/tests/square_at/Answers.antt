@@ -1,5 +1,4 @@
 use lib.Ieee.{of_bits}
-use borrow.Author.Rules.{rules}
 use Rattle.plane.specs.Values.{pt}
 use Rattle.looks.proofs.TestLaws.{square_key}
 use Rattle.looks.proofs.tests.square_at.Goals as goal

@@ -1,9 +1,7 @@
-use Rattle.std.proofs.Common.{◌+◌, ◌-◌, ◌^◌, ◌<◌, ◌≤◌, length, drop, arith, rules}
-use Rattle.table.proofs.Parts.{tail_is}
-use Rattle.mapfile.specs.Reads.{FieldRead}
-use Rattle.held.specs.Holds.{Tables, tables_of}
-use Rattle.mapfile.proofs.FileLaws.{ReadTo, more_within, read_done, read_more, read_none, read_refused}
-use Rattle.held.proofs.RoomLaws.{SameLong, same_both, same_none}
+use Rattle.std.proofs.Common.{◌-◌, length}
+use Rattle.held.specs.Holds.{tables_of}
+use Rattle.mapfile.proofs.FileLaws.{ReadTo}
+use Rattle.held.proofs.RoomLaws.{SameLong}
 use Rattle.mapfile.proofs.file.read_fields.Given as goal
 
 -- `file::read_fields`: the fields in turn, to a refusal or to the end. Assumes nothing.

@@ -1,6 +1,5 @@
-use Rattle.std.proofs.Common.{◌-◌, length, arith, leb-false, leb-true}
-use Rattle.marks.specs.Marked.{max_candidates}
-use Rattle.marks.proofs.GatherLaws.{Gathered, gathered_none, gathered_more, gathered_done}
+use Rattle.std.proofs.Common.{arith}
+use Rattle.marks.proofs.GatherLaws.{gathered_none, gathered_more, gathered_done}
 use Rattle.marks.proofs.gather.gather.Goals as goal
 
 pub loop-i-init : goal.loop-i-init
@@ -15,17 +14,11 @@ loop-i-preserved c =
     let a = c.args in
     gathered_more a.candidates.now l.candidates a.corners.now a.altered.now a.n l.used l.i a.shift l.invariant c.loop-i-test.true c.if-used-le-CANDIDATES.true r.new.candidates r.result r.auto.candidates r.ensures
 
-pub shape_of-candidates-else-used-le-CANDIDATES : goal.shape_of-candidates-else-used-le-CANDIDATES
-shape_of-candidates-else-used-le-CANDIDATES c = c.loop-i.invariant.long
-
 pub returns-else-used-le-CANDIDATES : goal.returns-else-used-le-CANDIDATES
 returns-else-used-le-CANDIDATES c =
     let l = c.loop-i in
     let a = c.args in
     gathered_done a.candidates.now l.candidates a.corners.now a.altered.now a.n l.used l.i a.shift l.invariant (λ h. absurd (omega (arith, c.if-used-le-CANDIDATES.false)))
-
-pub shape_of-candidates-after-loop-i : goal.shape_of-candidates-after-loop-i
-shape_of-candidates-after-loop-i c = c.loop-i.invariant.long
 
 pub returns-after-loop-i : goal.returns-after-loop-i
 returns-after-loop-i c =

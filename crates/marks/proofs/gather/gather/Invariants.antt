@@ -1,6 +1,5 @@
-use Rattle.std.proofs.Common.{◌-◌, length, arith, leb-false, leb-true}
-use Rattle.marks.specs.Marked.{max_candidates}
-use Rattle.marks.proofs.GatherLaws.{Gathered, gathered_none, gathered_more, gathered_done}
+use Rattle.std.proofs.Common.{◌-◌, length}
+use Rattle.marks.proofs.GatherLaws.{Gathered}
 use Rattle.marks.proofs.gather.gather.Given as goal
 
 -- `gather::gather`: cell by cell, until all are looked at or there are too many keys. Assumes nothing.

@@ -1,8 +1,5 @@
-use Rattle.std.proofs.Common.{◌≡◌, ◌-◌, ap, ◌∙◌, ⊎_elim, arith}
-use Rattle.model.specs.Cell.{Dir}
-use Rattle.model.specs.Corner.{Bits, bit, number}
-use Rattle.marks.specs.Marked.{dir_at}
-use Rattle.marks.proofs.GatherLaws.{Put, put_none, put_pass, put_more, put_done}
+use Rattle.std.proofs.Common.{◌-◌}
+use Rattle.marks.proofs.GatherLaws.{Put}
 use Rattle.marks.proofs.gather.put_corners.Given as goal
 
 -- `gather::put_corners`: the four marks one after another. Assumes nothing.

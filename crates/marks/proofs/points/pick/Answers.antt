@@ -1,5 +1,5 @@
 use Rattle.std.proofs.Common.{◌<◌, length, inl, inr, arith}
-use Rattle.marks.proofs.EndingLaws.{picked_none, picked_more, picked_pass, picked_full, picked_done}
+use Rattle.marks.proofs.EndingLaws.{picked_none, picked_more, picked_pass, picked_full}
 use Rattle.marks.proofs.points.pick.Goals as goal
 use Rattle.marks.proofs.points.pick.Goals.{then-moods-i-ne0+then-n-out+then-n-told, else-moods-i-ne0, else-moods-i-ne0-via-then-moods-i-ne0+then-n-out+else-n-told, else-moods-i-ne0-via-then-moods-i-ne0+else-n-out, else-moods-i-ne0-via-else-moods-i-ne0}
 
@@ -24,15 +24,3 @@ loop-i-preserved c =
         | else-moods-i-ne0-via-else-moods-i-ne0 x ↦ pass x.if-moods-i-ne0.false
       ])
     ]
-
-pub shape_of-out : goal.shape_of-out
-shape_of-out c = c.loop-i.invariant.cells
-
-pub shape_of-told : goal.shape_of-told
-shape_of-told c = c.loop-i.invariant.numbers
-
-pub returns : goal.returns
-returns c =
-    let l = c.loop-i in
-    let a = c.args in
-    picked_done a.candidates.now a.moods.now a.out.now l.out a.told.now l.told l.n l.i l.invariant c.requires c.loop-i-test.false

@@ -13,9 +13,6 @@ loop-i-preserved c =
     let a = c.args in
     made_more a.candidates.now a.moods.now l.moods a.corners.now a.altered.now a.shift l.i l.invariant c.loop-i-test.true c.requires.3 r.new.moods r.auto.moods r.ensures.1
 
-pub shape_of-moods : goal.shape_of-moods
-shape_of-moods c = c.loop-i.invariant.long
-
 pub returns : goal.returns
 returns c =
     let l = c.loop-i in

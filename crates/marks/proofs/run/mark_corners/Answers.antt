@@ -18,9 +18,6 @@ loop-d-preserved c =
     four_more a.candidates.now a.moods.now l.moods a.k a.status a.shift a.n l.d l.invariant c.loop-d-test.true c.requires.2 (dir c.corner_at-corner.result) c.corner_at-corner.ensures c.shifted.result c.shifted.ensures c.get.result
     (λ b e. c.get.ensures b e ∙ ap (λ (d : Dir). bit d b) c.corner_at-corner.ensures) r.new.moods r.auto.moods r.ensures.1
 
-pub shape_of-moods : goal.shape_of-moods
-shape_of-moods c = c.loop-d.invariant.long
-
 pub returns : goal.returns
 returns c =
     let l = c.loop-d in

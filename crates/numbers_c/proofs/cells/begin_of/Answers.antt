@@ -1,4 +1,3 @@
-use Rattle.std.proofs.Common.{rules}
 use lib.Ieee.{binary64, mul}
 use Rattle.numbers_c.proofs.PlaceLaws.{side}
 use Rattle.numbers_c.proofs.cells.begin_of.Goals as goal

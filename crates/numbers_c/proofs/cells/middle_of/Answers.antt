@@ -1,4 +1,3 @@
-use Rattle.std.proofs.Common.{rules}
 use lib.Ieee.{of_bits}
 use Rattle.ieee.specs.Yard.{centre_f}
 use Rattle.numbers_c.proofs.PlaceLaws.{side}

@@ -1,4 +1,4 @@
-use Rattle.std.proofs.Common.{refl, rules}
+use Rattle.std.proofs.Common.{refl}
 use Rattle.numbers_c.proofs.cells.runcedau_cell_of_key.Goals as goal
 
 -- `runcedau_cell_of_key` has the key's column and its row. Assumes nothing.

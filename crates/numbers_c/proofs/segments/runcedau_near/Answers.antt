@@ -1,4 +1,4 @@
-use Rattle.std.proofs.Common.{ℕ, ap, ◌∙◌, rules}
+use Rattle.std.proofs.Common.{ℕ, ap, ◌∙◌}
 use Rattle.model.specs.Segment.{passes_near}
 use Rattle.segment.specs.Values.{seg}
 use Rattle.numbers_c.proofs.segments.runcedau_near.Goals as goal

@@ -1,4 +1,4 @@
-use Rattle.std.proofs.Common.{◌≡◌, ℕ, ◌-◌, ◌*◌, ◌^◌, ◌<◌, ◌≤◌, length, get_or, sym, refl, ap, ◌∙◌, arith, length-set, le-leb}
+use Rattle.std.proofs.Common.{◌≡◌, ℕ, ◌<◌, ◌≤◌, length, get_or, sym, refl, ap, ◌∙◌, arith, length-set, le-leb}
 use borrow.Author.Tests.{lt-leb}
 use Rattle.table.proofs.Front.{mix}
 use Rattle.model.specs.Segment.{passes_near}
@@ -49,7 +49,7 @@ returns c =
     let i : c.loop-i.i ≡ length a.cells.now = omega arith in
     let f = prepared c.new-test.result in
     let same : (j : ℕ) → j < length a.cells.now → f (get_or a.cells.now j 0) ≡ passes_near (seg a.s) (get_or a.cells.now j 0) a.size a.radius =
-    λ j h. prepared_near a.s c.new.result c.new-test.result (get_or a.cells.now j 0) a.size a.radius (c.shared_slice_known-1.given j).fits c.new-test.ensures c.new.ensures in (
+    λ j h. prepared_near a.s c.new.result c.new-test.result (get_or a.cells.now j 0) a.size a.radius (c.type_inv.cells j).fits c.new-test.ensures c.new.ensures in (
       sym (le-leb (length a.cells.now) (length a.near.now) l),
       c.loop-i.invariant.2 ∙ ap (mix (answers f a.cells.now) a.near.now) i ∙ told_all _ a.size a.radius a.cells.now a.near.now f same l,
     )

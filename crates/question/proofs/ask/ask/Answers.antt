@@ -2,7 +2,6 @@ use native.Mathlib.Omega.{arith}
 use mathlib.Core.Path.{◌≡◌, refl, sym, ap, ◌∙◌}
 use lib.ListN.{length}
 use lib.Seq.{length-take-le}
-use borrow.Author.Rules.{rules}
 use Rattle.model.specs.Refusal.{bad_question}
 use Rattle.question.specs.Question.{asked}
 use Rattle.question.specs.Ask.{refuse_ask, refuse_floor}

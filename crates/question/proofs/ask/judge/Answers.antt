@@ -1,6 +1,5 @@
 use mathlib.Core.Path.{refl}
 use mathlib.Core.List.{[]}
-use borrow.Author.Rules.{rules}
 use Rattle.limits.proofs.WordLaws.{due_added, none_added}
 use Rattle.model.specs.Limits.{max_cells}
 use Rattle.question.proofs.AskLaws.{ask_judged, short_one}

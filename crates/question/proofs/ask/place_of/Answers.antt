@@ -1,5 +1,4 @@
 use mathlib.Core.Path.{refl}
-use borrow.Author.Rules.{rules}
 use Rattle.question.proofs.ask.place_of.Goals as goal
 
 -- `ask::place_of` has the key's column and row. Assumes nothing.

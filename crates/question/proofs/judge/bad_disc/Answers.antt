@@ -1,5 +1,4 @@
 use mathlib.Core.Path.{refl, sym, ◌∙◌}
-use borrow.Author.Rules.{rules}
 use Rattle.question.proofs.judge.bad_disc.Goals as goal
 
 -- `judge::bad_disc` judges the place, then the length. Assumes nothing.

@@ -1,5 +1,4 @@
 use mathlib.Core.Bool.{and-false}
-use mathlib.Core.Logic.{⊎_elim}
 use mathlib.Core.Path.{refl}
 use lib.Ieee.{of_bits, odd, le}
 use Rattle.ieee.specs.Constants.{nought}

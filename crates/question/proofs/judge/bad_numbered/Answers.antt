@@ -1,5 +1,4 @@
 use mathlib.Core.Path.{sym, ap, ◌∙◌}
-use borrow.Author.Rules.{rules}
 use Rattle.question.specs.Numbered.{bad_numbered}
 use Rattle.question.proofs.judge.bad_numbered.Goals as goal
 

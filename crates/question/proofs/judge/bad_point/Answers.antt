@@ -1,5 +1,4 @@
 use mathlib.Core.Path.{refl, sym, ◌∙◌}
-use borrow.Author.Rules.{rules}
 use Rattle.question.proofs.judge.bad_point.Goals as goal
 
 -- `judge::bad_point` judges both coordinates. Assumes nothing.

@@ -1,5 +1,4 @@
 use mathlib.Core.Path.{sym, ◌∙◌}
-use borrow.Author.Rules.{rules}
 use Rattle.model.specs.Refusal.{bad_question}
 use Rattle.question.proofs.judge.bad_question.Goals as goal
 

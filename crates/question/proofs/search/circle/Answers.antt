@@ -1,4 +1,3 @@
-use borrow.Author.Rules.{rules}
 use Rattle.plane.specs.Values.{pt}
 use Rattle.question.proofs.TakenLaws.{circle_found}
 use Rattle.question.proofs.search.circle.Goals as goal

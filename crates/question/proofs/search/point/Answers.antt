@@ -1,5 +1,4 @@
 use native.Mathlib.Omega.{arith}
-use borrow.Author.Rules.{rules}
 use Rattle.plane.specs.Values.{pt}
 use Rattle.question.proofs.TakenLaws.{column_small, point_found}
 use Rattle.question.proofs.search.point.Goals as goal

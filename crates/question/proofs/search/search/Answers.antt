@@ -1,4 +1,3 @@
-use borrow.Author.Rules.{rules}
 use Rattle.model.specs.Shape.{ask}
 use Rattle.question.proofs.search.search.Goals as goal
 

@@ -1,5 +1,4 @@
 use lib.Ieee.{of_bits}
-use borrow.Author.Rules.{rules}
 use Rattle.plane.specs.Values.{pt}
 use Rattle.question.proofs.TakenLaws.{square_found}
 use Rattle.question.proofs.search.square.Goals as goal

@@ -1,7 +1,6 @@
 use mathlib.Core.Bool.{true, false}
 use mathlib.Core.Path.{◌≡◌, ap, ◌∙◌}
 use lib.Ieee.{lt, of_bits}
-use borrow.Author.Rules.{rules}
 use Rattle.model.specs.Plane.{minus, norm, tiny}
 use Rattle.plane.specs.Values.{pt}
 use Rattle.question.specs.Walk.{found_as}

@@ -1,4 +1,3 @@
-use native.Mathlib.Omega.{arith}
 use Rattle.question.proofs.WalkLaws.{column_beyond_lem, left_begins, row_beyond}
 use Rattle.question.proofs.walk.begin.Goals as goal
 
@@ -6,7 +5,7 @@ use Rattle.question.proofs.walk.begin.Goals as goal
 pub returns-then-columns-ge-COLUMN : goal.returns-then-columns-ge-COLUMN
 returns-then-columns-ge-COLUMN c =
     let a = c.args in
-    λ s low. column_beyond_lem a.columns s a.cells.now a.row low c.if-columns-ge-COLUMN.true (λ i. (c.shared_slice_known-1.given i).fits)
+    λ s low. column_beyond_lem a.columns s a.cells.now a.row low c.if-columns-ge-COLUMN.true (λ i. (c.type_inv.cells i).fits)
 
 pub returns-then-row-ge-COLUMN : goal.returns-then-row-ge-COLUMN
 returns-then-row-ge-COLUMN c = let a = c.args in λ s low. row_beyond a.columns s a.cells.now a.row low c.if-row-ge-COLUMN.true

@@ -1,13 +1,6 @@
 use Prim.Native.Nat.{◌-◌}
-use native.Mathlib.Omega.{arith}
-use mathlib.Core.Path.{sym, ◌∙◌}
-use mathlib.Core.Bool.{and-true}
-use lib.ListN.{get_or, length}
-use borrow.Author.Rules.{rules}
-use Rattle.model.specs.Cell.{col, row}
-use Rattle.shape.specs.Bounds.{in_bounds}
+use lib.ListN.{length}
 use Rattle.question.specs.Walk.{Left, flat}
-use Rattle.question.proofs.WalkLaws.{Stepped, left_cell, left_end, left_past, left_step}
 use Rattle.question.proofs.walk.first_flat.Given as goal
 
 -- `walk::first_flat`: what is left of the table has the same first cell. Assumes nothing.

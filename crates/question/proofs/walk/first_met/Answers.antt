@@ -1,10 +1,5 @@
-use Prim.Native.Nat.{◌-◌}
 use native.Mathlib.Omega.{arith}
-use mathlib.Core.Path.{◌≡◌, refl, sym, ap, ◌∙◌}
-use lib.ListN.{length, drop}
-use borrow.Author.Rules.{rules}
-use Rattle.model.specs.Maps.{find}
-use Rattle.shape.specs.declared.bounds.Bounds.{Bounds}
+use mathlib.Core.Path.{refl, sym, ap, ◌∙◌}
 use Rattle.question.specs.Walk.{keyed, round, row_taken}
 use Rattle.question.proofs.WalkLaws.{find_past, row_fails, row_passes, row_past}
 use Rattle.question.proofs.walk.first_met.Goals as goal

@@ -1,12 +1,9 @@
 use Prim.Native.Nat.{◌-◌}
-use native.Mathlib.Omega.{arith}
-use mathlib.Core.Path.{◌≡◌, refl, sym, ap, ◌∙◌}
+use mathlib.Core.Path.{◌≡◌}
 use lib.ListN.{length, drop}
-use borrow.Author.Rules.{rules}
 use Rattle.model.specs.Maps.{find}
 use Rattle.shape.specs.declared.bounds.Bounds.{Bounds}
-use Rattle.question.specs.Walk.{keyed, round, row_taken}
-use Rattle.question.proofs.WalkLaws.{find_past, row_fails, row_passes, row_past}
+use Rattle.question.specs.Walk.{round, row_taken}
 use Rattle.question.proofs.walk.first_met.Given as goal
 
 -- `walk::first_met`: what is left of the column has the same first cell. Assumes nothing.

@@ -1,10 +1,8 @@
-use Prim.Native.Nat.{◌-◌}
 use native.Mathlib.Omega.{arith}
 use mathlib.Core.Path.{sym, ◌∙◌}
-use lib.ListN.{get_or, length}
-use borrow.Author.Rules.{rules}
+use lib.ListN.{get_or}
 use Rattle.model.specs.Cell.{col}
-use Rattle.question.specs.Walk.{Left, round}
+use Rattle.question.specs.Walk.{round}
 use Rattle.question.proofs.WalkLaws.{Stepped, left_cell, left_end, left_past, left_step}
 use Rattle.question.proofs.walk.first_round.Goals as goal
 

@@ -1,11 +1,6 @@
 use Prim.Native.Nat.{◌-◌}
-use native.Mathlib.Omega.{arith}
-use mathlib.Core.Path.{sym, ◌∙◌}
-use lib.ListN.{get_or, length}
-use borrow.Author.Rules.{rules}
-use Rattle.model.specs.Cell.{col}
+use lib.ListN.{length}
 use Rattle.question.specs.Walk.{Left, round}
-use Rattle.question.proofs.WalkLaws.{Stepped, left_cell, left_end, left_past, left_step}
 use Rattle.question.proofs.walk.first_round.Given as goal
 
 -- `walk::first_round`: what is left of the table has the same first cell. Assumes nothing.

@@ -1,8 +1,5 @@
-use Prim.Native.Nat.{◌-◌}
 use native.Mathlib.Omega.{arith}
-use lib.ListN.{length}
-use borrow.Author.Rules.{rules}
-use Rattle.question.specs.Walk.{Left, swept}
+use Rattle.question.specs.Walk.{swept}
 use Rattle.question.proofs.WalkLaws.{Stepped, left_end, left_past, left_step}
 use Rattle.question.proofs.walk.first_swept.Goals as goal
 

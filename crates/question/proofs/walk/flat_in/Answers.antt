@@ -1,5 +1,4 @@
 use mathlib.Core.Path.{refl}
-use borrow.Author.Rules.{rules}
 use Rattle.question.specs.Walk.{flat}
 use Rattle.question.proofs.WalkLaws.{rows_answered}
 use Rattle.question.proofs.walk.flat_in.Goals as goal

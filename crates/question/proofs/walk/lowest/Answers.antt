@@ -1,6 +1,5 @@
 use native.Mathlib.Omega.{arith}
 use mathlib.Core.Path.{sym, ap, ◌∙◌}
-use borrow.Author.Rules.{rules}
 use Rattle.question.specs.Walk.{flat, keyed, row_taken}
 use Rattle.question.proofs.WalkLaws.{find_past, row_first}
 use Rattle.question.proofs.walk.lowest.Goals as goal

@@ -1,5 +1,4 @@
 use mathlib.Core.Path.{refl, sym, ◌∙◌}
-use borrow.Author.Rules.{rules}
 use Rattle.question.proofs.walk.met_in_rows.Goals as goal
 
 -- `walk::met_in_rows` is both tests. Assumes nothing.

@@ -1,5 +1,4 @@
 use mathlib.Core.Path.{ap, ◌∙◌}
-use borrow.Author.Rules.{rules}
 use Rattle.model.specs.Maps.{find}
 use Rattle.shape.specs.declared.bounds.Bounds.{Bounds}
 use Rattle.question.specs.Walk.{column_taken, flat, keyed}

@@ -1,4 +1,3 @@
-use borrow.Author.Rules.{rules}
 use Prim.Native.Nat.{◌≤◌}
 use native.Mathlib.Omega.{arith}
 use mathlib.Core.Path.{refl}
@@ -13,26 +12,20 @@ use Rattle.report.proofs.file.list_file.Goals as goal
 
 -- `file::list_file`: the file read into tables of its own, and its refusal or its map listed. Assumes nothing.
 pub returns-then-out-lt-LISTING : goal.returns-then-out-lt-LISTING
-returns-then-out-lt-LISTING c = list_short c.args.bytes.now c.args.out.now c.refused.result c.if-out-lt-LISTING.true c.refused.ensures
+returns-then-out-lt-LISTING c = list_short _ _ _ c.if-out-lt-LISTING.true c.refused.ensures
 
 pub returns-then-opened-ne0 : goal.returns-then-opened-ne0
 returns-then-opened-ne0 c =
-    let room : need_listing ≤ length c.args.out.now = omega (arith, c.if-out-lt-LISTING.false) in
-    let k = c.read_file-opened.new in
-    let read : Tables = tables_of k.cells k.points k.statuses k.blockers k.pairs in
-    let a = c.args in
-    let e = c.read_file-opened.result in
-    list_refused a.bytes.now a.out.now room _ e.refusal e.field c.put_refusal-n.result
-    (opened_refused a.bytes.now _ read e c.if-opened-ne0.true (c.read_file-opened.ensures.reads (not_short _ own_enough))) c.put_refusal-n.ensures
+    list_refused _ _ (omega (arith, c.if-out-lt-LISTING.false)) _ _ _ _ (opened_refused _ _ _ _ c.if-opened-ne0.true (c.read_file-opened.ensures.reads (not_short _ own_enough))) c.put_refusal-n.ensures
 
 pub returns : goal.returns
 returns c =
-    let room : need_listing ≤ length c.args.out.now = omega (arith, c.if-out-lt-LISTING.false) in
+    let a = c.args in
+    let room : need_listing ≤ length a.out.now = omega (arith, c.if-out-lt-LISTING.false) in
     let k = c.read_file-opened.new in
     let read : Tables = tables_of k.cells k.points k.statuses k.blockers k.pairs in
     let l = c.read_file-opened.auto in
     let whole : Whole read = record { cells = l.cells; points = l.points; statuses = l.statuses; blockers = l.blockers; pairs = l.pairs } in
-    let a = c.args in
     let e = c.read_file-opened.result in
     list_read a.bytes.now a.out.now room _ e.map read _ _ c.list_map.result
     (opened_done a.bytes.now _ read e c.if-opened-ne0.false (c.read_file-opened.ensures.reads (not_short _ own_enough))) (whole_enough read ((length a.out.now, need_listing) ∷ []) whole (room, tt)) (λ M h. (read, h, (refl, refl, refl, refl, refl))) c.list_map.ensures

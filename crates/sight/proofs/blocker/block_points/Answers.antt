@@ -1,10 +1,6 @@
-use Prim.Native.Nat.{◌-◌, ◌≤◌}
-use native.Mathlib.Omega.{arith}
-use mathlib.Core.Logic.{⊎_elim, inl, inr}
+use mathlib.Core.Logic.{inl, inr}
 use lib.ListN.{length}
-use borrow.Author.Rules.{rules}
-use borrow.Author.Tests.{ltb-false, ltb-true}
-use Rattle.sight.proofs.BlockLaws.{Blocking, blocking_start, blocking_next, blocking_end, never_short}
+use Rattle.sight.proofs.BlockLaws.{blocking_next, blocking_end, never_short}
 use Rattle.sight.proofs.blocker.block_points.Goals as goal
 use Rattle.sight.proofs.blocker.block_points.Goals.{then-full-confirmed-via-then-full-confirmed, then-full-confirmed-via-else-full-confirmed+then-moods-points, then-full-confirmed-via-else-full-confirmed+else-moods-points+then-out-points}
 
@@ -18,15 +14,9 @@ returns-then-full-confirmed c =
       | then-full-confirmed-via-else-full-confirmed+else-moods-points+then-out-points w ↦ inr (inr w.if-out-points.true)
     ]))
 
-pub loop-i-init : goal.loop-i-init
-loop-i-init c = blocking_start _ _ _ _ _ _ _ _ _ _
-
 pub loop-i-preserved : goal.loop-i-preserved
 loop-i-preserved c =
     blocking_next c.loop-i.invariant c.of_word.result c.start_point-start.result c.run_point.result c.loop-i-test.true c.if-out-points.false c.of_word.ensures.2 c.start_point-start.ensures c.run_point.ensures
-
-pub shape_of-out : goal.shape_of-out
-shape_of-out c = c.loop-i.invariant.same
 
 pub returns : goal.returns
 returns c = λ ch S B s n b a h. blocking_end c.loop-i.invariant c.loop-i-test.false ch S B s n b a

@@ -1,10 +1,6 @@
-use Prim.Native.Nat.{◌-◌, ◌≤◌}
-use native.Mathlib.Omega.{arith}
-use mathlib.Core.Logic.{⊎_elim, inl, inr}
+use Prim.Native.Nat.{◌-◌}
 use lib.ListN.{length}
-use borrow.Author.Rules.{rules}
-use borrow.Author.Tests.{ltb-false, ltb-true}
-use Rattle.sight.proofs.BlockLaws.{Blocking, blocking_start, blocking_next, blocking_end, never_short}
+use Rattle.sight.proofs.BlockLaws.{Blocking}
 use Rattle.sight.proofs.blocker.block_points.Given as goal
 
 -- `blocker::block_points`: the points one after another, each written to its place. Assumes nothing.

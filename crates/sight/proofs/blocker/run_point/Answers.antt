@@ -1,21 +1,12 @@
-use Prim.Native.Nat.{◌-◌}
 use mathlib.Core.Path.{sym, ◌∙◌}
-use mathlib.Core.Logic.{⊎_elim}
 use mathlib.Core.Bool.{true, false}
-use lib.ListN.{length, get_or}
-use borrow.Author.Rules.{rules}
+use lib.ListN.{get_or}
 use Rattle.batches.proofs.WriteLaws.{means_free, means_full}
-use Rattle.model.specs.ClosedForm.{point_run}
 use Rattle.model.specs.Map.{tests}
-use Rattle.sight.proofs.ChangeLaws.{Running, point_steps, running_start, running_next, running_end}
-use Rattle.sight.proofs.PointLaws.{Given, point_apart, point_freed, point_kept, point_met}
+use Rattle.sight.proofs.ChangeLaws.{point_steps, running_next, running_end}
+use Rattle.sight.proofs.PointLaws.{point_apart, point_freed, point_kept, point_met}
 use Rattle.sight.proofs.blocker.run_point.Goals as goal
 use Rattle.sight.proofs.blocker.run_point.Goals.{else-block-eq0-via-then-block-eq0+else-within, else-block-eq0-via-else-block-eq0, then-full-i-eq0+then-block-c, then-full-i-eq0+else-block-c, else-full-i-eq0+then-block-eq0+then-within, else-full-i-eq0+else-block-eq0}
-
-pub loop-i-init : goal.loop-i-init
-loop-i-init c =
-    let s = c.args in
-    running_start (Given s.size s.radius s.reach s.cells.now) (point_run (tests s.size s.radius) s.cells.now s.k) s.confirmed.now s.full.now s.start
 
 pub loop-i-preserved : goal.loop-i-preserved
 loop-i-preserved c =

@@ -1,14 +1,9 @@
 use Prim.Native.Nat.{◌-◌}
-use mathlib.Core.Path.{sym, ◌∙◌}
-use mathlib.Core.Logic.{⊎_elim}
-use mathlib.Core.Bool.{true, false}
-use lib.ListN.{length, get_or}
-use borrow.Author.Rules.{rules}
-use Rattle.batches.proofs.WriteLaws.{means_free, means_full}
+use lib.ListN.{length}
 use Rattle.model.specs.ClosedForm.{point_run}
 use Rattle.model.specs.Map.{tests}
-use Rattle.sight.proofs.ChangeLaws.{Running, point_steps, running_start, running_next, running_end}
-use Rattle.sight.proofs.PointLaws.{Given, point_apart, point_freed, point_kept, point_met}
+use Rattle.sight.proofs.ChangeLaws.{Running}
+use Rattle.sight.proofs.PointLaws.{Given}
 use Rattle.sight.proofs.blocker.run_point.Given as goal
 
 -- `blocker::run_point`: the changes one after another. Assumes nothing.

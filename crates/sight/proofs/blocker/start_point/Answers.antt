@@ -1,4 +1,3 @@
-use borrow.Author.Rules.{rules}
 use Rattle.model.specs.Map.{tests}
 use Rattle.sight.proofs.PointLaws.{start_new, start_old, start_past}
 use Rattle.sight.proofs.blocker.start_point.Goals as goal

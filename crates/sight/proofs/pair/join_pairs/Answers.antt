@@ -1,10 +1,5 @@
-use Prim.Native.Nat.{◌-◌, ◌*◌, ◌≤◌}
 use native.Mathlib.Omega.{arith}
-use mathlib.Core.Logic.{⊎_elim}
-use borrow.Author.Rules.{rules}
-use borrow.Author.Tests.{ltb-false, ltb-true}
-use lib.ListN.{length}
-use Rattle.sight.proofs.JoinLaws.{Rows, rows_end, rows_more, rows_start, seeing_lengths}
+use Rattle.sight.proofs.JoinLaws.{rows_end, rows_more, seeing_lengths}
 use Rattle.sight.proofs.pair.join_pairs.Goals as goal
 use Rattle.sight.proofs.pair.join_pairs.Goals.{then-full-confirmed-via-then-full-confirmed, then-full-confirmed-via-else-full-confirmed+then-moods-points, then-points-gt-POINTS-via-then-points-gt-POINTS, then-points-gt-POINTS-via-else-points-gt-POINTS+then-out-points}
 
@@ -20,21 +15,12 @@ returns-then-points-gt-POINTS c = λ ch S P seeing pairs named space few s.
     let k = seeing_lengths a.cells.now ch S a.confirmed.now a.full.now a.points.now a.moods.now seeing in
     absurd (elim c.then-points-gt-POINTS.branch [ then-points-gt-POINTS-via-then-points-gt-POINTS t ↦ omega arith | then-points-gt-POINTS-via-else-points-gt-POINTS+then-out-points t ↦ omega arith ])
 
-pub loop-i-init : goal.loop-i-init
-loop-i-init c = rows_start _ _ _ _ _ _ _ _ _ _
-
-pub join_row-requires : goal.join_row-requires
-join_row-requires c = (c.if-full-confirmed.false, c.if-moods-points.false, c.if-points-gt-POINTS.false, c.loop-i-test.true, rw c.loop-i.invariant.same c.if-out-points.false)
-
 pub loop-i-preserved : goal.loop-i-preserved
 loop-i-preserved c =
     let g = c.loop-i in
     let a = c.args in
     rows_more a.size a.radius c.new-proximity.result a.cells.now a.confirmed.now a.full.now a.points.now a.moods.now a.old.now g.i a.out.now g.out c.join_row.new.out g.invariant c.loop-i-test.true c.join_row.auto.out
     (λ ch S P w s. c.join_row.ensures ch S P w.seeing w.is_proximity w.pairs w.named s)
-
-pub shape_of-out : goal.shape_of-out
-shape_of-out c = c.loop-i.invariant.same
 
 pub returns : goal.returns
 returns c = λ ch S P seeing pairs named space few s.

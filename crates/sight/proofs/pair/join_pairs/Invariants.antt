@@ -1,10 +1,6 @@
-use Prim.Native.Nat.{◌-◌, ◌*◌, ◌≤◌}
-use native.Mathlib.Omega.{arith}
-use mathlib.Core.Logic.{⊎_elim}
-use borrow.Author.Rules.{rules}
-use borrow.Author.Tests.{ltb-false, ltb-true}
+use Prim.Native.Nat.{◌-◌}
 use lib.ListN.{length}
-use Rattle.sight.proofs.JoinLaws.{Rows, rows_end, rows_more, rows_start, seeing_lengths}
+use Rattle.sight.proofs.JoinLaws.{Rows}
 use Rattle.sight.proofs.pair.join_pairs.Given as goal
 
 -- `pair::join_pairs`: the rows before the i-th are written. Assumes nothing.

@@ -1,8 +1,6 @@
-use Prim.Native.Nat.{◌+◌, ◌-◌, ◌*◌, ◌≤◌, ◌<◌}
-use native.Mathlib.Omega.{arith}
-use borrow.Author.Rules.{rules}
-use lib.ListN.{length, length-set}
-use Rattle.sight.proofs.JoinLaws.{Row, row_end, row_more, row_start, told_at}
+use Prim.Native.Nat.{◌-◌}
+use lib.ListN.{length}
+use Rattle.sight.proofs.JoinLaws.{Row}
 use Rattle.sight.proofs.pair.join_row.Given as goal
 
 -- `pair::join_row`: the pairs up to the j-th point are written, from both ends. Assumes nothing.

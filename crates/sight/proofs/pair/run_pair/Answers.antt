@@ -1,12 +1,9 @@
-use Prim.Native.Nat.{◌-◌, ◌*◌, ◌^◌, ◌<◌, ◌≤◌}
+use Prim.Native.Nat.{◌^◌, ◌<◌, ◌≤◌}
 use native.Mathlib.Omega.{arith}
 use mathlib.Core.Path.{refl, sym, ◌∙◌}
-use mathlib.Core.Logic.{⊎_elim}
-use borrow.Author.Rules.{rules}
 use lib.ListN.{length, get_or}
 use Rattle.model.specs.Map.{tests}
-use Rattle.sight.proofs.EdgeLaws.{Running, running_end, running_freed, running_kept, running_missed, running_passed, running_start}
-use Rattle.segment.specs.Many.{prepared}
+use Rattle.sight.proofs.EdgeLaws.{running_end, running_freed, running_kept, running_missed, running_passed, running_start}
 use Rattle.sight.proofs.NearLaws.{prepared_answers}
 use Rattle.sight.proofs.pair.run_pair.Goals as goal
 use Rattle.sight.proofs.pair.run_pair.Goals.{then-full-i-eq0+then-block-c, then-full-i-eq0+else-block-c, else-full-i-eq0+then-passes, else-full-i-eq0+else-passes}
@@ -17,9 +14,6 @@ returns-then-confirmed-eq0 c = λ ch o order inside changes confirmed_are full_a
     let none : length a.confirmed.now ≤ 0 = omega (arith, c.if-confirmed-eq0.true) in
     running_end (running_start a.size a.radius a.cells.now a.p a.q (λ k. (tests a.size a.radius).near k a.p a.q) a.confirmed.now a.full.now a.start) none ch o
     (record { order = order; inside = inside; changes = changes; confirmed_are = confirmed_are; full_are = full_are }) (λ k h. refl) e n
-
-pub loop-i-init : goal.loop-i-init
-loop-i-init c = running_start _ _ _ _ _ _ _ _ _
 
 pub loop-i-preserved : goal.loop-i-preserved
 loop-i-preserved c =

@@ -1,13 +1,7 @@
-use Prim.Native.Nat.{◌-◌, ◌*◌, ◌^◌, ◌<◌, ◌≤◌}
-use native.Mathlib.Omega.{arith}
-use mathlib.Core.Path.{refl, sym, ◌∙◌}
-use mathlib.Core.Logic.{⊎_elim}
-use borrow.Author.Rules.{rules}
-use lib.ListN.{length, get_or}
-use Rattle.model.specs.Map.{tests}
-use Rattle.sight.proofs.EdgeLaws.{Running, running_end, running_freed, running_kept, running_missed, running_passed, running_start}
+use Prim.Native.Nat.{◌-◌}
+use lib.ListN.{length}
+use Rattle.sight.proofs.EdgeLaws.{Running}
 use Rattle.segment.specs.Many.{prepared}
-use Rattle.sight.proofs.NearLaws.{prepared_answers}
 use Rattle.sight.proofs.pair.run_pair.Given as goal
 
 -- `pair::run_pair`: the blocker so far, and the changes that are left. Assumes nothing.

@@ -1,14 +1,6 @@
-use Prim.Native.Nat.{◌-◌, ◌<◌}
-use native.Mathlib.Omega.{arith}
-use lib.ListN.{length}
-use Rattle.views.proofs.AroundLaws.{Stepping, steps_all, steps_none, steps_pass, steps_put}
+use Rattle.views.proofs.AroundLaws.{steps_all, steps_pass, steps_put}
 use Rattle.views.proofs.neighbours.write_steps.Goals as goal
 use Rattle.views.proofs.neighbours.write_steps.Goals.{else-sweep_between-eq0, then-sweep_between-eq0}
-
-pub loop-i-init : goal.loop-i-init
-loop-i-init c =
-    let a = c.args in
-    steps_none a.size a.radius a.cells.now a.k a.out.now c.requires.1
 
 pub loop-i-preserved : goal.loop-i-preserved
 loop-i-preserved c =

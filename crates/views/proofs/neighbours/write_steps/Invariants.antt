@@ -1,8 +1,5 @@
-use Prim.Native.Nat.{◌-◌, ◌<◌}
-use native.Mathlib.Omega.{arith}
-use mathlib.Core.Logic.{⊎_elim}
-use lib.ListN.{length}
-use Rattle.views.proofs.AroundLaws.{Stepping, steps_all, steps_none, steps_pass, steps_put}
+use Prim.Native.Nat.{◌-◌}
+use Rattle.views.proofs.AroundLaws.{Stepping}
 use Rattle.views.proofs.neighbours.write_steps.Given as goal
 
 -- `neighbours::write_steps`: each of the eight in turn, written where its sweep is free. Assumes nothing.

@@ -2,19 +2,8 @@ use mathlib.Core.Path.{sym, ◌∙◌}
 use Rattle.model.specs.Corner.{sees}
 use Rattle.model.specs.Map.{tests}
 use Rattle.looks.proofs.NamedLaws.{sweep_named}
-use Rattle.views.proofs.SeenLaws.{seen_blocked, seen_hidden, seen_swept}
+use Rattle.views.proofs.SeenLaws.{seen_swept}
 use Rattle.views.proofs.visibility_from.is_seen.Goals as goal
-
--- `visibility_from::is_seen`: what blocks the point, whether it sees the cell, and the sweep. Assumes nothing.
-pub returns-then-blocker-ne0 : goal.returns-then-blocker-ne0
-returns-then-blocker-ne0 c =
-    let a = c.args in
-    λ b o u i e f n. seen_blocked o a.blocker n f _ c.if-blocker-ne0.true
-
-pub returns-then-not-sees : goal.returns-then-not-sees
-returns-then-not-sees c =
-    let a = c.args in
-    λ b o u i e f n. seen_hidden o a.blocker n f c.if-blocker-ne0.false (sees a.k a.p b) _ (sym (c.sees.ensures b e) ∙ c.if-not-sees.true)
 
 pub returns : goal.returns
 returns c =

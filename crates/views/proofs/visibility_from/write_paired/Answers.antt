@@ -1,14 +1,7 @@
-use Prim.Native.Nat.{◌-◌, ◌*◌, ◌^◌, ◌<◌}
-use lib.ListN.{length}
 use native.Mathlib.Omega.{arith}
-use Rattle.views.proofs.MarkedLaws.{Marking, marking_all, marking_none, marking_pass, marking_put}
+use Rattle.views.proofs.MarkedLaws.{marking_all, marking_pass, marking_put}
 use Rattle.views.proofs.visibility_from.write_paired.Goals as goal
 use Rattle.views.proofs.visibility_from.write_paired.Goals.{else-row-i-eq1, then-row-i-eq1}
-
-pub loop-i-init : goal.loop-i-init
-loop-i-init c =
-    let a = c.args in
-    marking_none a.points.now a.row.now a.out.now c.requires.1
 
 pub loop-i-preserved : goal.loop-i-preserved
 loop-i-preserved c =

@@ -1,8 +1,6 @@
-use Prim.Native.Nat.{◌-◌, ◌*◌, ◌^◌, ◌<◌}
-use mathlib.Core.Logic.{⊎_elim}
+use Prim.Native.Nat.{◌-◌}
 use lib.ListN.{length}
-use native.Mathlib.Omega.{arith}
-use Rattle.views.proofs.MarkedLaws.{Marking, marking_all, marking_none, marking_pass, marking_put}
+use Rattle.views.proofs.MarkedLaws.{Marking}
 use Rattle.views.proofs.visibility_from.write_paired.Given as goal
 
 -- `visibility_from::write_paired`: each point in turn, written where its number is 1. Assumes nothing.

@@ -1,14 +1,6 @@
-use Prim.Native.Nat.{◌-◌, ◌*◌, ◌^◌, ◌<◌}
-use lib.ListN.{length}
-use native.Mathlib.Omega.{arith}
-use Rattle.views.proofs.SeenLaws.{Seeing, seeing_all, seeing_none, seeing_pass, seeing_put}
+use Rattle.views.proofs.SeenLaws.{seeing_all, seeing_pass, seeing_put}
 use Rattle.views.proofs.visibility_from.write_seen.Goals as goal
 use Rattle.views.proofs.visibility_from.write_seen.Goals.{else-is_seen, then-is_seen}
-
-pub loop-i-init : goal.loop-i-init
-loop-i-init c =
-    let a = c.args in
-    seeing_none a.size a.radius a.cells.now a.points.now a.statuses.now a.blockers.now a.k a.out.now c.requires.2
 
 pub loop-i-preserved : goal.loop-i-preserved
 loop-i-preserved c =

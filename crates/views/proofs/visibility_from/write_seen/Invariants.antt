@@ -1,8 +1,6 @@
-use Prim.Native.Nat.{◌-◌, ◌*◌, ◌^◌, ◌<◌}
-use mathlib.Core.Logic.{⊎_elim}
+use Prim.Native.Nat.{◌-◌}
 use lib.ListN.{length}
-use native.Mathlib.Omega.{arith}
-use Rattle.views.proofs.SeenLaws.{Seeing, seeing_all, seeing_none, seeing_pass, seeing_put}
+use Rattle.views.proofs.SeenLaws.{Seeing}
 use Rattle.views.proofs.visibility_from.write_seen.Given as goal
 
 -- `visibility_from::write_seen`: each point in turn, written where it is seen. Assumes nothing.

@@ -1,26 +1,9 @@
-use Rattle.std.proofs.Common.{ℕ, ◌≤◌, ◌++◌, drop, length, refl, sym, arith, length-take-le}
-use Rattle.model.specs.Limits.{max_cells}
-use Rattle.visibility.proofs.FinishLaws.{finished, kept_long}
+use Rattle.std.proofs.Common.{refl, arith}
+use Rattle.visibility.proofs.FinishLaws.{finished}
 use Rattle.visibility.proofs.change.finish.Goals as goal
 use Rattle.visibility.proofs.change.finish.Goals.{else-after-gt-CELLS, then-after-gt-CELLS}
 
 -- `change::finish`: the cells, the layer over them, and the outputs. Assumes nothing.
-pub slice_bounds-commit-end-2 : goal.slice_bounds-commit-end-2
-slice_bounds-commit-end-2 c = let a = c.args in sym (length-take-le max_cells a.cells.now (omega arith))
-
--- the count, cut down to the table's places, is within it
-pub slice_bounds-redraw-end : goal.slice_bounds-redraw-end
-slice_bounds-redraw-end c =
-    let few : c.if-after-gt-CELLS.used ≤ max_cells = elim c.if-after-gt-CELLS.branch [ then-after-gt-CELLS w ↦ omega arith | else-after-gt-CELLS w ↦ omega arith ] in
-    let long = kept_long c.commit-after.new.cells c.args.cells.now c.requires.0 c.commit-after.auto.cells in
-    omega (arith, few, long)
-
-pub slice_bounds-redraw-end-2 : goal.slice_bounds-redraw-end-2
-slice_bounds-redraw-end-2 c =
-    let few : c.if-after-gt-CELLS.used ≤ max_cells = elim c.if-after-gt-CELLS.branch [ then-after-gt-CELLS w ↦ omega arith | else-after-gt-CELLS w ↦ omega arith ] in
-    let long = kept_long c.commit-after.new.cells c.args.cells.now c.requires.0 c.commit-after.auto.cells in
-    sym (length-take-le c.if-after-gt-CELLS.used (c.commit-after.new.cells ++ drop max_cells c.args.cells.now) (omega (arith, few, long)))
-
 pub returns : goal.returns
 returns c =
     -- the four copies, the layer, the count, the cells

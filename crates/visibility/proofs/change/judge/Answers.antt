@@ -1,7 +1,6 @@
 use Prim.Native.Nat.{ℕ}
 use mathlib.Core.Path.{refl, ap, ◌∙◌}
 use mathlib.Core.List.{[]}
-use borrow.Author.Rules.{rules}
 use Rattle.limits.proofs.WordLaws.{both_added, due_added, none_added}
 use Rattle.limits.specs.Words.{looked, word_on}
 use Rattle.visibility.proofs.RefuseLaws.{batch_judged}

@@ -1,15 +1,8 @@
-use Prim.Native.Nat.{◌*◌}
-use mathlib.Core.Path.{sym}
 use lib.ListN.{length}
-use lib.Seq.{length-take-le}
 use Rattle.model.specs.Map.{tests}
 use Rattle.sight.specs.Paired.{pair_at}
 use Rattle.visibility.proofs.RowLaws.{rows_drawn}
-use borrow.Author.Rules.{rules}
 use Rattle.visibility.proofs.layer.draw_pairs.Goals as goal
-
-pub slice_bounds-clear-end-2 : goal.slice_bounds-clear-end-2
-slice_bounds-clear-end-2 c = sym (length-take-le (64 * c.args.rows) c.args.pairs.now c.requires.1)
 
 pub returns : goal.returns
 returns c = λ ch S P Q seeing few pairs named w.

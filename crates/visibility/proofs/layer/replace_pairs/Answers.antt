@@ -1,20 +1,7 @@
 use native.Mathlib.Omega.{arith}
-use mathlib.Core.Path.{sym}
-use lib.ListN.{length}
-use lib.Seq.{length-take-le}
 use Rattle.sight.proofs.BlockLaws.{seeing_fits}
 use Rattle.visibility.proofs.RowLaws.{rows_copied, rows_more}
-use borrow.Author.Rules.{rules}
 use Rattle.visibility.proofs.layer.replace_pairs.Goals as goal
-
-pub slice_bounds-copy-end-2 : goal.slice_bounds-copy-end-2
-slice_bounds-copy-end-2 c = sym (length-take-le (length c.args.kept.now) c.args.pairs.now c.requires.3)
-
-pub draw_pairs-requires : goal.draw_pairs-requires
-draw_pairs-requires c =
-    let s = c in
-    let h = c.greater-rows.ensures.2 64 s.requires.0 s.requires.1 in
-    omega (arith, h, s.requires.4)
 
 pub returns : goal.returns
 returns c = λ ch S P seeing named w.

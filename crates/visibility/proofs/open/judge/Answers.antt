@@ -1,6 +1,5 @@
 use mathlib.Core.Path.{refl}
 use mathlib.Core.List.{[]}
-use borrow.Author.Rules.{rules}
 use Rattle.limits.proofs.WordLaws.{due_added, judged, none_added}
 use Rattle.visibility.proofs.open.judge.Goals as goal
 

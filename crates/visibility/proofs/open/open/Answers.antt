@@ -1,94 +1,71 @@
-use Rattle.std.proofs.Common.{◌≡◌, ℕ, Bool, false, List, [], ◌∷◌, Float, sym, ◌∙◌, length-take-le}
+use Rattle.std.proofs.Common.{◌≡◌, ℕ, ◌≤◌, false, List, length, take, sym, ◌∙◌, length-take-le}
 use Rattle.held.specs.Pairs.{pair_places}
 use Rattle.model.specs.Limits.{max_cells, max_points}
-use Rattle.model.specs.Refusal.{bad_radius, bad_size, short, verdict}
+use Rattle.model.specs.Refusal.{bad_radius, bad_size, refuse_open, short}
 use Rattle.held.specs.Holds.{Tables, tables_of}
 use Rattle.held.specs.Holds as tables
 use Rattle.held.proofs.RoomLaws.{Enough, long_enough}
 use Rattle.visibility.proofs.OpenLaws.{open_done, open_judged, open_passed, open_refused}
 use Rattle.visibility.proofs.open.open.Goals as goal
+use Rattle.visibility.proofs.open.open.Goals.{After-judge-number}
 
 -- `open::open`: the first refusal that applies, or cleared tables. Assumes nothing.
--- what the tests say of the tables that are lent
-module _ (t : Tables) (c r : Float) (s : Bool) (n : ℕ) (e : n ≡ verdict ((9, s) ∷ (1, bad_size c) ∷ (2, bad_radius c r) ∷ [])) (f : s ≡ short (tables.needs t)) (none : n ≡ 0) where
-  passed : (short (tables.needs t) ≡ false) × (bad_size c ≡ false) × (bad_radius c r ≡ false)
-  passed = open_passed (tables.needs t) c r (sym (open_judged (tables.needs t) c r s n e f) ∙ none)
+-- the tables that are lent, and what the tests say of them
+abbrev lent : After-judge-number → Tables
+lent j = let a = j.args in tables_of a.cells.now a.points.now a.statuses.now a.blockers.now a.pairs.now
 
-  room : Enough (tables.needs t)
-  room = long_enough (tables.needs t) passed.0
+due : (j : After-judge-number) → j.judge-number.result ≡ refuse_open (tables.needs (lent j)) j.args.size j.args.radius
+due j = open_judged (tables.needs (lent j)) j.args.size j.args.radius j.short_tables-short.result j.judge-number.result j.judge-number.ensures j.short_tables-short.ensures
+
+-- where none refuses
+passed : (j : After-judge-number) → j.judge-number.result ≡ 0 → (short (tables.needs (lent j)) ≡ false) × (bad_size j.args.size ≡ false) × (bad_radius j.args.size j.args.radius ≡ false)
+passed j none = open_passed (tables.needs (lent j)) j.args.size j.args.radius (sym (due j) ∙ none)
+
+room : (j : After-judge-number) → j.judge-number.result ≡ 0 → Enough (tables.needs (lent j))
+room j none = long_enough (tables.needs (lent j)) (passed j none).0
+
+fits : (n : ℕ) (l : List ℕ) → n ≤ length l → n ≡ length (take n l)
+fits n l h = sym (length-take-le n l h)
 
 pub returns-then-number-ne0 : goal.returns-then-number-ne0
 returns-then-number-ne0 c =
-    let a = c.args in
-    let t : Tables = tables_of a.cells.now a.points.now a.statuses.now a.blockers.now a.pairs.now in
-    open_refused a.size a.radius t c.judge-number.result c.refused.result c.if-number-ne0.true c.refused.ensures
-    (open_judged (tables.needs t) a.size a.radius c.short_tables-short.result c.judge-number.result c.judge-number.ensures c.short_tables-short.ensures)
+    let j = (goal.at.returns-then-number-ne0 c).After-judge-number in
+    open_refused c.args.size c.args.radius (lent j) c.judge-number.result c.refused.result c.if-number-ne0.true c.refused.ensures (due j)
 
 pub slice_bounds-clear-end : goal.slice_bounds-clear-end
-slice_bounds-clear-end c =
-    let a = c.args in
-    let t : Tables = tables_of a.cells.now a.points.now a.statuses.now a.blockers.now a.pairs.now in
-    (room t a.size a.radius c.short_tables-short.result c.judge-number.result c.judge-number.ensures c.short_tables-short.ensures c.if-number-ne0.false).0
+slice_bounds-clear-end c = (room (goal.at.slice_bounds-clear-end c).After-judge-number c.if-number-ne0.false).0
 
 pub slice_bounds-clear-end-2 : goal.slice_bounds-clear-end-2
-slice_bounds-clear-end-2 c =
-    let a = c.args in
-    let t : Tables = tables_of a.cells.now a.points.now a.statuses.now a.blockers.now a.pairs.now in
-    sym (length-take-le max_cells a.cells.now (room t a.size a.radius c.short_tables-short.result c.judge-number.result c.judge-number.ensures c.short_tables-short.ensures c.if-number-ne0.false).0)
+slice_bounds-clear-end-2 c = fits max_cells c.args.cells.now (room (goal.at.slice_bounds-clear-end-2 c).After-judge-number c.if-number-ne0.false).0
 
 pub slice_bounds-clear-end-3 : goal.slice_bounds-clear-end-3
-slice_bounds-clear-end-3 c =
-    let a = c.args in
-    let t : Tables = tables_of a.cells.now a.points.now a.statuses.now a.blockers.now a.pairs.now in
-    (room t a.size a.radius c.short_tables-short.result c.judge-number.result c.judge-number.ensures c.short_tables-short.ensures c.if-number-ne0.false).1.0
+slice_bounds-clear-end-3 c = (room (goal.at.slice_bounds-clear-end-3 c).After-judge-number c.if-number-ne0.false).1.0
 
 pub slice_bounds-clear-end-4 : goal.slice_bounds-clear-end-4
-slice_bounds-clear-end-4 c =
-    let a = c.args in
-    let t : Tables = tables_of a.cells.now a.points.now a.statuses.now a.blockers.now a.pairs.now in
-    sym (length-take-le max_points a.points.now (room t a.size a.radius c.short_tables-short.result c.judge-number.result c.judge-number.ensures c.short_tables-short.ensures c.if-number-ne0.false).1.0)
+slice_bounds-clear-end-4 c = fits max_points c.args.points.now (room (goal.at.slice_bounds-clear-end-4 c).After-judge-number c.if-number-ne0.false).1.0
 
 pub slice_bounds-clear_bytes-end : goal.slice_bounds-clear_bytes-end
-slice_bounds-clear_bytes-end c =
-    let a = c.args in
-    let t : Tables = tables_of a.cells.now a.points.now a.statuses.now a.blockers.now a.pairs.now in
-    (room t a.size a.radius c.short_tables-short.result c.judge-number.result c.judge-number.ensures c.short_tables-short.ensures c.if-number-ne0.false).1.1.0
+slice_bounds-clear_bytes-end c = (room (goal.at.slice_bounds-clear_bytes-end c).After-judge-number c.if-number-ne0.false).1.1.0
 
 pub slice_bounds-clear_bytes-end-2 : goal.slice_bounds-clear_bytes-end-2
-slice_bounds-clear_bytes-end-2 c =
-    let a = c.args in
-    let t : Tables = tables_of a.cells.now a.points.now a.statuses.now a.blockers.now a.pairs.now in
-    sym (length-take-le max_points a.statuses.now (room t a.size a.radius c.short_tables-short.result c.judge-number.result c.judge-number.ensures c.short_tables-short.ensures c.if-number-ne0.false).1.1.0)
+slice_bounds-clear_bytes-end-2 c = fits max_points c.args.statuses.now (room (goal.at.slice_bounds-clear_bytes-end-2 c).After-judge-number c.if-number-ne0.false).1.1.0
 
 pub slice_bounds-clear-end-5 : goal.slice_bounds-clear-end-5
-slice_bounds-clear-end-5 c =
-    let a = c.args in
-    let t : Tables = tables_of a.cells.now a.points.now a.statuses.now a.blockers.now a.pairs.now in
-    (room t a.size a.radius c.short_tables-short.result c.judge-number.result c.judge-number.ensures c.short_tables-short.ensures c.if-number-ne0.false).1.1.1.0
+slice_bounds-clear-end-5 c = (room (goal.at.slice_bounds-clear-end-5 c).After-judge-number c.if-number-ne0.false).1.1.1.0
 
 pub slice_bounds-clear-end-6 : goal.slice_bounds-clear-end-6
-slice_bounds-clear-end-6 c =
-    let a = c.args in
-    let t : Tables = tables_of a.cells.now a.points.now a.statuses.now a.blockers.now a.pairs.now in
-    sym (length-take-le max_points a.blockers.now (room t a.size a.radius c.short_tables-short.result c.judge-number.result c.judge-number.ensures c.short_tables-short.ensures c.if-number-ne0.false).1.1.1.0)
+slice_bounds-clear-end-6 c = fits max_points c.args.blockers.now (room (goal.at.slice_bounds-clear-end-6 c).After-judge-number c.if-number-ne0.false).1.1.1.0
 
 pub slice_bounds-clear-end-7 : goal.slice_bounds-clear-end-7
-slice_bounds-clear-end-7 c =
-    let a = c.args in
-    let t : Tables = tables_of a.cells.now a.points.now a.statuses.now a.blockers.now a.pairs.now in
-    (room t a.size a.radius c.short_tables-short.result c.judge-number.result c.judge-number.ensures c.short_tables-short.ensures c.if-number-ne0.false).1.1.1.1.0
+slice_bounds-clear-end-7 c = (room (goal.at.slice_bounds-clear-end-7 c).After-judge-number c.if-number-ne0.false).1.1.1.1.0
 
 pub slice_bounds-clear-end-8 : goal.slice_bounds-clear-end-8
-slice_bounds-clear-end-8 c =
-    let a = c.args in
-    let t : Tables = tables_of a.cells.now a.points.now a.statuses.now a.blockers.now a.pairs.now in
-    sym (length-take-le pair_places a.pairs.now (room t a.size a.radius c.short_tables-short.result c.judge-number.result c.judge-number.ensures c.short_tables-short.ensures c.if-number-ne0.false).1.1.1.1.0)
+slice_bounds-clear-end-8 c = fits pair_places c.args.pairs.now (room (goal.at.slice_bounds-clear-end-8 c).After-judge-number c.if-number-ne0.false).1.1.1.1.0
 
 pub returns : goal.returns
 returns c =
-    let a = c.args in
-    let t : Tables = tables_of a.cells.now a.points.now a.statuses.now a.blockers.now a.pairs.now in
-    let q = passed t a.size a.radius c.short_tables-short.result c.judge-number.result c.judge-number.ensures c.short_tables-short.ensures c.if-number-ne0.false in
-    open_done a.size a.radius t q.0 q.1 q.2
+    let j = (goal.at.returns c).After-judge-number in
+    let q = passed j c.if-number-ne0.false in
+    open_done c.args.size c.args.radius (lent j) q.0 q.1 q.2
     c.clear.new.t c.clear-2.new.t c.clear_bytes.new.t c.clear-3.new.t c.clear-4.new.t
     c.clear.ensures c.clear-2.ensures c.clear_bytes.ensures c.clear-3.ensures c.clear-4.ensures

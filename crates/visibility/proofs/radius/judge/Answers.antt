@@ -1,6 +1,5 @@
 use mathlib.Core.Path.{refl}
 use mathlib.Core.List.{[]}
-use borrow.Author.Rules.{rules}
 use Rattle.limits.proofs.WordLaws.{due_added, none_added}
 use Rattle.visibility.proofs.RefuseLaws.{radius_judged}
 use Rattle.visibility.proofs.radius.judge.Goals as goal
