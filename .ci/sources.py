@@ -4,7 +4,9 @@ import re
 TOKEN = re.compile(r'"[^"\n]*"|[(){};,]|[^\s(){};,"]+')
 OPEN, SHUT = "({", ")}"
 FUNCTION = re.compile(r'^( *)pub (?:const |unsafe )*(?:extern "C" )?fn (\w+)', re.M)
-HOLDER = re.compile(r"impl(?:<[^>]*>)? (?:.* for )?(\w+)")
+HOLDER = re.compile(r"(?:(pub trait)|trait|impl)\b")
+DECLARED = re.compile(r"^pub(?: unsafe)? (?:struct|enum|trait) (\w+)", re.M)
+METHOD = re.compile(r'^    (?:const |unsafe |final )*fn (\w+)')
 CLAUSE = re.compile(r"\s*(ghost|requires|ensures)\b(\*?)\s*(\w*)\s*(:?)\s*(?=\{)")
 USE = re.compile(r"^\s*(?:pub )?(?:unfoldable )?(?:pub )?(ghost )?use ([^\s;{]+?)(?:\.\{([^}]*)\}| as (\S+?))?;?\s*$", re.M)
 
@@ -48,13 +50,14 @@ class Function:
     """A public function: its path, what it takes and answers, and its clauses as (word, is starred, name, tokens)."""
 
     def __init__(self, path, source, text, at):
-        self.path, self.source, self.clauses, self.is_read = path, source, [], True
+        self.path, self.source, self.clauses, self.is_read, begins = path, source, [], True, at
         while at < len(text) and text[at] != "(":
             # the parameters of a generic function
             at = angle_end(text, at) if text[at] == "<" else at + 1
         end = end_of(text, at)
-        self.takes = text[at + 1 : end - 1]
-        head = re.compile(r"(.*?)(?=\{|\b(?:ghost|requires|ensures)\b)", re.S).match(text, end)
+        self.generics, self.takes = text[begins:at], text[at + 1 : end - 1]
+        head = re.compile(r"(.*?)(?=\{|;\s*\n|\b(?:ghost|requires|ensures)\b)", re.S).match(text, end)
+        self.generics += head[1].partition("where")[2]
         answer = re.match(r"\s*->\s*(.*?)\s*(?:\bwhere\b.*)?$", head[1], re.S)
         self.result = answer[1] if answer else None
         at = head.end()
@@ -63,9 +66,15 @@ class Function:
             tokens = tokens_of(text[clause.end() + 1 : at - 1])
             self.clauses.append((clause[1], bool(clause[2]), clause[3], tokens))
             self.is_read = self.is_read and not any(token.startswith("--") for token in tokens)
-        # what follows is the body, or something that is not read here
-        self.is_read = self.is_read and re.compile(r"\s*\{").match(text, at) is not None
-        self.outputs = re.findall(r"(\w+): &(?:'\w+ )?mut\b", self.takes) + (["self"] if re.search(r"&(?:'\w+ )?mut self\b", self.takes) else [])
+        # what follows is the body, or none in a trait, or something that is not read here
+        self.is_read = self.is_read and re.compile(r"\s*[{;]").match(text, at) is not None
+        holder = path.split("::")[-2] if "::" in path else ""
+        self.parameters = {name: kind.strip() for name, kind in FIELD.findall(re.sub(r"\bmut (\w+):", r"\1:", self.takes))}
+        me = re.match(r"\s*(&?)(?:'\w+ )?(mut )?self\b", self.takes)
+        if me:
+            self.parameters["self"] = holder if not me[1] else f"&mut {holder}" if me[2] else f"&{holder}"
+        # what a function may write to: each with the type of what is lent
+        self.outputs = {name: found[1] for name, kind in self.parameters.items() if (found := re.match(r"&(?:'\w+ )?mut (.*)", kind, re.S))}
 
     def told(self, word):
         """The terms of its clauses of a kind that hold plain facts."""
@@ -87,15 +96,59 @@ def functions(root, crates="*"):
         yield from functions_of(root, source)
 
 
+def holder_of(line):
+    """The type or trait whose functions follow a line `impl ..` or `trait ..`, and whether each of them is public as the functions of a public trait are; or None."""
+    found = HOLDER.match(line)
+    if not found:
+        return None
+    at = found.end()
+    # the parameters of a generic block
+    at = angle_end(line, at) if line[at : at + 1] == "<" else at
+    told = re.match(r".*? for (?=\w)(.*)", line[at:]) or re.match(r"(.*)", line[at:])
+    return re.search(r"\w+", told[1])[0], bool(found[1])
+
+
+def public_types(root, crate):
+    """The structs, enums and traits that a crate shows to those above it."""
+    return {name for source in root.glob(f"crates/{crate}/src/**/*.rt") for name in DECLARED.findall(without_comments(source.read_text()))}
+
+
 def functions_of(root, source):
     crate = source.relative_to(root / "crates").parts[0]
     module = [] if source.stem in ("lib", "main") else [source.stem]
-    text, holder, at = without_comments(source.read_text()), None, 0
+    text, holder, at, shown = without_comments(source.read_text()), None, 0, public_types(root, crate)
     for line in text.splitlines(keepends=True):
-        block = HOLDER.match(line)
-        holder = block[1] if block else None if line.rstrip() == "}" else holder
+        block = holder_of(line)
+        holder = block if block else None if line.rstrip() == "}" else holder
         found = FUNCTION.match(line)
-        if found:
-            path = [crate, *module, *([holder] if holder and found[1] else []), found[2]]
-            yield Function("::".join(path), source, text, at + found.end())
+        inside = found and found[1] and holder
+        # a public trait's functions are public, and of a type's only those of a type that is
+        is_public = found and (not inside or holder[0] in shown)
+        if not found and holder and holder[1]:
+            method = METHOD.match(line)
+            found, inside, is_public = method, method, bool(method)
+        if is_public:
+            name = found[found.lastindex]
+            yield Function("::".join([crate, *module, *([holder[0]] if inside else []), name]), source, text, at + found.end())
         at += len(line)
+
+
+FIELD = re.compile(r"(?:^|,)\s*(?:pub(?:\([^)]*\))? )?(\w+): ((?:<[^<>]*(?:<[^<>]*>)*[^<>]*>|\[[^\]]*\]|\([^)]*\)|[^,<\[(])+)", re.M)
+
+
+def fields_of(root, source, name):
+    """The fields of a public struct that a file names, each with its type: its own crate's, or that of the crate that the file brings it in from. A struct's
+    lifetimes do not count; of any other generic type nothing is known."""
+    plain = re.fullmatch(r"(\w+)(?:<\s*'\w+(?:\s*,\s*'\w+)*\s*>)?", name.strip())
+    if not plain:
+        return {}
+    name, text = plain[1], without_comments(source.read_text())
+    used = re.search(rf"^use (\w+)::[^;]*\b{name}\b[^;]*;", text, re.M)
+    if used and re.search(rf"\bas {name}\b", used[0]):
+        return {}
+    crate = source.relative_to(root / "crates").parts[0] if not used or used[1] == "crate" else used[1]
+    for place in sorted(root.glob(f"crates/{crate}/src/**/*.rt")):
+        found = re.search(rf"^pub struct {name}(?:<\s*'\w+(?:\s*,\s*'\w+)*\s*>)? \{{(.*?)^\}}", without_comments(place.read_text()), re.S | re.M)
+        if found:
+            return {field: kind.strip() for field, kind in FIELD.findall(re.sub(r"\bghost \w+: \{.*?\},?", "", found[1], flags=re.S))}
+    return {}

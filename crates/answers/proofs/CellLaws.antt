@@ -1,13 +1,13 @@
 -- What is told of the cells that a map lends, where the tables hold it. Assumes nothing.
 use Prim.Native.Nat.{ℕ, ◌≤◌}
 use native.Mathlib.Omega.{arith}
-use mathlib.Core.Path.{◌≡◌, sym, ap, ◌∙◌, subst}
-use mathlib.Core.Bool.{Bool, false}
+use mathlib.Core.Path.{◌≡◌, refl, sym, ap, ◌∙◌, subst}
+use mathlib.Core.Bool.{Bool}
 use mathlib.Core.List.{List, [], ◌∷◌, ◌++◌}
 use lib.IntN.{ℤ}
 use lib.ListN.{drop, length, take}
 use lib.Seq.{length-take-le}
-use Rattle.answers.proofs.PassedLaws.{long_enough, passed}
+use Rattle.answers.proofs.PassedLaws.{accepted}
 use Rattle.answers.specs.Asking.{Written, refuse_map}
 use Rattle.table.specs.Copied.{Copied}
 use Rattle.corner.specs.Changes.{Cornered, numbered}
@@ -27,18 +27,11 @@ use Rattle.table.specs.Listed.{values}
 use Rattle.held.specs.declared.map.Map.{Map}
 use Rattle.answers.specs.CellLists.{Lent}
 
--- ---- a call that is not refused: the used cells are lent, and each output has room for them
-module _ (m : Map) (cells : List ℕ) (l : List (ℕ × ℕ)) (more : Dues) (e : refuse_map (short ((length cells, max_cells) ∷ l)) m more ≡ 0) where
-  few : m.cells ≤ max_cells
-  few = (passed (short ((length cells, max_cells) ∷ l)) m more e).1
-
-  pub rest_long : short l ≡ false
-  rest_long = (long_enough (length cells) max_cells l (passed (short ((length cells, max_cells) ∷ l)) m more e).0).1
-
-  pub used : m.cells ≡ length (take m.cells cells)
-  used =
-      let room = (long_enough (length cells) max_cells l (passed (short ((length cells, max_cells) ∷ l)) m more e).0).0 in
-      sym (length-take-le m.cells cells (omega (arith, few, room)))
+-- ---- a call that is not refused: the used cells are lent
+pub used : (m : Map) (cells : List ℕ) (l : List (ℕ × ℕ)) (more : Dues) → 0 ≡ refuse_map (short ((length cells, max_cells) ∷ l)) m more → m.cells ≡ length (take m.cells cells)
+used m cells l more e =
+    let p = accepted ((length cells, max_cells) ∷ l) m more 0 e refl in
+    sym (length-take-le m.cells cells (omega (arith, p.1, p.0.0)))
 
 -- ---- a map that is held
 module _ (m : Map) (cells : List ℕ) where

@@ -1,10 +1,15 @@
 -- Any two outcomes that a call's contract permits are equal, of a map that is held; and where the call is refused, whatever the tables hold. Assumes nothing.
-use Prim.Native.Nat.{ℕ}
-use mathlib.Core.Path.{refl, sym, ◌∙◌, ◌≡◌}
+use Prim.Native.Nat.{ℕ, zero, suc}
+use native.Mathlib.Nat.{suc-ne-zero}
+use mathlib.Core.Path.{refl, sym, ap, ◌∙◌, ◌≡◌}
+use mathlib.Core.Bool.{Bool}
 use mathlib.Core.List.{List, [], ◌∷◌}
 use lib.IntN.{ℤ}
 use lib.ListN.{length}
+use Rattle.answers.proofs.AskLaws.{numbered_due, unknown_refused}
 use Rattle.answers.proofs.ListingLaws.{Settled, list_one, settled_one}
+use Rattle.limits.proofs.RefusalLaws.{number_one, number_some}
+use Rattle.answers.specs.Told.{counted, said}
 use Rattle.answers.specs.declared.judge.Count.{Count}
 use Rattle.model.specs.Limits.{need_cells}
 use Rattle.held.specs.declared.map.Map.{Map}
@@ -16,9 +21,11 @@ use Rattle.model.specs.Refusal.{bad_question}
 use Rattle.question.specs.Question.{asked}
 use Rattle.question.specs.declared.search.Question.{Question}
 use Rattle.question.proofs.Determinate.{place_one}
-use Rattle.question.specs.Numbered.{bad_numbered}
-use Rattle.question.specs.declared.ask.Answer.{Answer}
-use Rattle.question.specs.declared.numbered.Numbered.{Numbered}
+use Rattle.question.specs.Answer.{placed}
+use Rattle.limits.specs.Refusals.{code}
+use Rattle.limits.specs.declared.cell.Cell.{Cell}
+use Rattle.limits.specs.declared.refusal.Refusal.{Refusal}
+use Rattle.std.specs.Prelude.{Option, Some, None, Result, Ok, Err}
 use Rattle.answers.specs.Asks.{Asks, AsksNumbered}
 use Rattle.model.specs.Map as model
 
@@ -77,16 +84,54 @@ module _ (m : Map) (points blockers pairs lesser greater : List ℕ) where
       let e = list_one (open_due m points blockers pairs lesser greater) (OpenHeld m points blockers pairs lesser greater) _ _ _ _ r q (refl, refl, (refl, refl, tt)) u v s in
       (e.0, e.1.0, e.1.1.0)
 
-same_answer : (r q : Answer) → r.refusal ≡ q.refusal → r.cell ≡ q.cell → r ≡ q
-same_answer r q a b = rw (a, b) refl
+-- ---- a question
+-- two that are refused with the same number, and two that find the same
+refused_both : (r q : Result (Option Cell) Refusal) (k : ℕ) → code r ≡ suc k → code q ≡ suc k → r ≡ q
+refused_both (Ok o) q k u v = absurd (suc-ne-zero k (sym u))
+refused_both (Err e) (Ok p) k u v = absurd (suc-ne-zero k (sym v))
+refused_both (Err e) (Err f) k u v = ap (λ (x : Refusal). Err x) (number_one e f (u ∙ sym v))
 
-pub ask_one : (m : Map) (cells : List ℕ) (question : Question) (r q : Answer) → Asks m cells question r → Asks m cells question q
+found_both : (r q : Result (Option Cell) Refusal) → code r ≡ 0 → code q ≡ 0 → ((o p : Option Cell) → r ≡ Ok o → q ≡ Ok p → placed o ≡ placed p) → r ≡ q
+found_both (Err e) q u v f = absurd (number_some e u)
+found_both (Ok o) (Err e) u v f = absurd (number_some e v)
+found_both (Ok o) (Ok p) u v f = ap (λ (x : Option Cell). Ok x) (place_one o p (f o p refl refl))
+
+pub ask_one : (m : Map) (cells : List ℕ) (question : Question) (r q : Result (Option Cell) Refusal) → Asks m cells question r → Asks m cells question q
     → Settled (due m cells [] ((8, bad_question (asked question)) ∷ [])) (Lent m cells) → r ≡ q
 ask_one m cells question r q u v =
-    settled_one (due m cells [] ((8, bad_question (asked question)) ∷ [])) (Lent m cells) r q (λ k e. u.refused k e ∙ sym (v.refused k e))
-    (λ M h e. same_answer r q (u.refusal ∙ sym v.refusal) (place_one r.cell q.cell (u.answer M h e ∙ sym (v.answer M h e))))
+    settled_one (due m cells [] ((8, bad_question (asked question)) ∷ [])) (Lent m cells) r q (λ k e. refused_both r q k (u.refusal ∙ e) (v.refusal ∙ e))
+    (λ M h e. found_both r q (u.refusal ∙ e) (v.refusal ∙ e) (λ o p x y. u.answer M h o x ∙ sym (v.answer M h p y)))
 
 -- by its shape's number
-pub numbered_one : (m : Map) (cells : List ℕ) (n : Numbered) (r q : Answer) → AsksNumbered m cells n r → AsksNumbered m cells n q → Settled (due m cells [] ((8, bad_numbered n) ∷ [])) (Lent m cells) → r ≡ q
-numbered_one m cells Numbered.Unknown r q u v s = u ∙ sym v
-numbered_one m cells (Numbered.Known question) r q u v s = ask_one m cells question r q u v s
+pub numbered_one : (m : Map) (cells : List ℕ) (n : Option Question) (r q : Result (Option Cell) Refusal) → AsksNumbered m cells n r → AsksNumbered m cells n q → Settled (numbered_due m cells n) (Lent m cells) → r ≡ q
+numbered_one m cells (Some question) r q u v s = ask_one m cells question r q u v s
+numbered_one m cells None r q u v s = go (numbered_due m cells None) refl
+  where
+    go : (k : ℕ) → numbered_due m cells None ≡ k → r ≡ q
+    go zero e = absurd (unknown_refused m cells e)
+    go (suc k) e = refused_both r q k (u ∙ e) (v ∙ e)
+
+-- ---- what C gets of an answer is all of it
+abbrev refusal_of : Count → ℕ
+refusal_of c = c.refusal
+
+abbrev count_of : Count → ℕ
+count_of c = c.count
+
+pub counted_one : (r q : Result ℕ Refusal) → counted r ≡ counted q → r ≡ q
+counted_one (Ok a) (Ok b) h = ap (λ (x : ℕ). Ok x) (ap count_of h)
+counted_one (Ok a) (Err f) h = absurd (number_some f (sym (ap refusal_of h)))
+counted_one (Err e) (Ok b) h = absurd (number_some e (ap refusal_of h))
+counted_one (Err e) (Err f) h = ap (λ (x : Refusal). Err x) (number_one e f (ap refusal_of h))
+
+abbrev told_refusal : Told → ℕ
+told_refusal t = t.refusal
+
+abbrev told_yes : Told → Bool
+told_yes t = t.yes
+
+pub said_one : (r q : Result Bool Refusal) → said r ≡ said q → r ≡ q
+said_one (Ok a) (Ok b) h = ap (λ (x : Bool). Ok x) (ap told_yes h)
+said_one (Ok a) (Err f) h = absurd (number_some f (sym (ap told_refusal h)))
+said_one (Err e) (Ok b) h = absurd (number_some e (ap told_refusal h))
+said_one (Err e) (Err f) h = ap (λ (x : Refusal). Err x) (number_one e f (ap told_refusal h))

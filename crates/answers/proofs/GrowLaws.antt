@@ -9,7 +9,7 @@ use lib.Seq.{append_snoc, drop-cons, set-append_seam}
 use Rattle.answers.specs.Asking.{Front}
 
 -- ---- one more is written after those at the front
-front_put : (v t t' : List ℕ) (n x : ℕ) → n < length t' → Front v n t t' → Front (v ++ (x ∷ [])) (n + 1) t (set t' n x)
+pub front_put : (v t t' : List ℕ) (n x : ℕ) → n < length t' → Front v n t t' → Front (v ++ (x ∷ [])) (n + 1) t (set t' n x)
 front_put v t t' n x k f =
     let e : n ≡ length v = f.0 in
     let z : length (v ++ (x ∷ [])) ≡ length v + 1 = length-append v (x ∷ []) in

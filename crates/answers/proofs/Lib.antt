@@ -2,10 +2,9 @@
 pub mod AskLaws
 pub mod CellLaws
 pub mod Determinate
-pub mod EdgeLaws
-pub mod FillLaws
 pub mod FoundLaws
 pub mod GrowLaws
+pub mod KeepLaws
 pub mod ListingLaws
 pub mod PairLaws
 pub mod PassedLaws

@@ -1,24 +1,31 @@
 -- A list that a call writes, or refuses to write; and that two such calls agree. Assumes nothing.
 use Prim.Native.Nat.{ℕ, zero, suc}
-use native.Mathlib.Omega.{arith}
+use native.Mathlib.Nat.{suc-ne-zero}
 use mathlib.Core.Path.{◌≡◌, refl, sym, ap, subst, ◌∙◌}
 use mathlib.Core.List.{List, [], ◌∷◌}
 use mathlib.Core.Logic.{◌⊎◌, ⊎_elim}
 use lib.ListN.{length}
 use Rattle.model.specs.Map as model
 use Rattle.answers.specs.Asking.{Listing, Output, Untouched, Written, refused_with}
+use Rattle.answers.specs.Told.{counted}
 use Rattle.answers.specs.declared.judge.Count.{Count}
+use Rattle.limits.proofs.RefusalLaws.{number_some}
+use Rattle.limits.specs.Refusals.{number}
+use Rattle.limits.specs.declared.refusal.Refusal.{Refusal}
+use Rattle.std.specs.Prelude.{Result, Ok, Err}
+use Rattle.std.specs.Result.{IsErrAnd}
 
-zero_no_suc : (k : ℕ) → zero ≡ suc k → ⊥
-zero_no_suc k e = omega (arith, e)
+-- ---- one call
+module _ (n : ℕ) (Hold : model.Map → Type 0) (os : List Output) where
+  -- the call returned with the refusal e
+  pub listing_refused : (r : Result ℕ Refusal) (e : Refusal) → IsErrAnd r (λ x. x ≡ e) → number e ≡ n → Untouched os → Listing n Hold os (counted r)
+  listing_refused (Ok a) e i q u = absurd i
+  listing_refused (Err x) e i q u =
+      let z : number x ≡ n = ap number i ∙ q in
+      record { refusal = z; refused = λ j g. (ap refused_with (z ∙ g), u); answer = λ M h y. absurd (number_some x (z ∙ y)) }
 
-module _ (n k : ℕ) (Hold : model.Map → Type 0) (os : List Output) (r : Count) (e : k ≡ n) where
-  -- the number k was answered, and it is none of a call that is done
-  pub listing_refused : (k ≡ 0 → ⊥) → r ≡ refused_with k → Untouched os → Listing n Hold os r
-  listing_refused f q u = record { refusal = ap (λ (c : Count). c.refusal) q ∙ e; refused = λ j g. (q ∙ ap refused_with (e ∙ g), u); answer = λ M h z. absurd (f (e ∙ z)) }
-
-  pub listing_done : k ≡ 0 → r.refusal ≡ 0 → ((M : model.Map) → Hold M → Written M r.count os) → Listing n Hold os r
-  listing_done z q w = record { refusal = q ∙ sym z ∙ e; refused = λ j g. absurd (zero_no_suc j (sym z ∙ e ∙ g)); answer = λ M h y. w M h }
+  pub listing_done : (r : ℕ) → 0 ≡ n → ((M : model.Map) → Hold M → Written M r os) → Listing n Hold os (counted (Ok r))
+  listing_done r q w = record { refusal = q; refused = λ j g. absurd (suc-ne-zero j (sym (q ∙ g))); answer = λ M h y. w M h }
 
 -- ---- two outcomes of one call
 -- the same was lent, and the same is wanted

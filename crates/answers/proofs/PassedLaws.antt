@@ -1,7 +1,7 @@
--- What is known once a call has passed its checks, and what its tests of lengths say. Assumes nothing.
+-- What is known once a call has passed its checks. Assumes nothing.
 use Prim.Native.Nat.{ℕ, ◌≤◌}
 use mathlib.Core.Path.{◌≡◌, refl, sym, ap, ◌∙◌}
-use mathlib.Core.Bool.{Bool, false, ◌||◌}
+use mathlib.Core.Bool.{Bool, true, false, ◌||◌, or_assoc, or-false}
 use mathlib.Core.List.{List, [], ◌∷◌, ◌++◌}
 use lib.Dec.{ltb}
 use borrow.Author.Tests.{ltb-false}
@@ -13,7 +13,6 @@ use Rattle.limits.specs.Words.{first_on, word_on}
 use Rattle.held.proofs.RoomLaws as tables
 use Rattle.held.specs.declared.map.Map.{Map}
 use Rattle.answers.specs.Asking.{on_map, refuse_map}
-use Rattle.answers.specs.Walks.{lacking, table_needs}
 
 -- no table is short, and there are no more cells and points than there may be
 pub passed : (s : Bool) (m : Map) (more : Dues) → refuse_map s m more ≡ 0 → (s ≡ false) × (m.cells ≤ max_cells) × (m.points ≤ max_points)
@@ -40,7 +39,7 @@ accepted lent m more k e z =
     let p = passed (short lent) m more (sym e ∙ z) in
     (tables.long_enough lent p.0, p.1, p.2)
 
--- the refusal, of what the tests said
+-- the refusal, of what the tests say
 abbrev pub said : Bool → Map → ℕ → ℕ
 said s m w = first_on order (word_on w (on_map s m []))
 
@@ -48,35 +47,22 @@ pub asked_as : (n : ℕ) (s s' : Bool) (m : Map) (w : ℕ) (more : Dues) → n �
 unfolding refuse_map
 asked_as n s s' m w more e f g = judged (on_map s' m more) e (rw (f, g) (both_added 0 (on_map s' m []) more))
 
-pub list_as : (n : ℕ) (s s' : Bool) (m : Map) → n ≡ said s m 0 → s ≡ s' → n ≡ refuse_map s' m []
-list_as n s s' m e f = asked_as n s s' m 0 [] e f (none_added 0)
+pub list_as : (n : ℕ) (s s' : Bool) (m : Map) (w : ℕ) → n ≡ said s m w → s ≡ s' → w ≡ 0 → n ≡ refuse_map s' m []
+list_as n s s' m w e f g = asked_as n s s' m w [] e f (g ∙ none_added 0)
 
--- ---- lent lengths with their needs, before the rest
-pub long_enough : (n need : ℕ) (l : List (ℕ × ℕ)) → short ((n, need) ∷ l) ≡ false → (need ≤ n) × (short l ≡ false)
+-- some lent tables, and others
+pub short_both : (k l : List (ℕ × ℕ)) → short (k ++ l) ≡ (short k || short l)
 unfolding short
-long_enough n need l e = let p = model.or_parts (ltb n need) (short l) e in (ltb-false n need p.0, p.1)
+short_both [] l = refl
+short_both (b ∷ k) l = ap (λ (s : Bool). ltb b.0 b.1 || s) (short_both k l) ∙ sym (or_assoc (ltb b.0 b.1) (short k) (short l))
 
--- as the calls of `lacks` add them up, from the last
-pub none_short : false ≡ short []
+module _ (k l : List (ℕ × ℕ)) (a : Bool) (e : a ≡ short k) where
+  pub some_short : a ≡ true → a ≡ short (k ++ l)
+  some_short z = rw (short_both k l, ← e, z) refl
+
+  pub others_short : (b : Bool) → a ≡ false → b ≡ short l → b ≡ short (k ++ l)
+  others_short b z f = rw (short_both k l, ← e, z) f
+
+pub short_one : (n need : ℕ) → ltb n need ≡ short ((n, need) ∷ [])
 unfolding short
-none_short = refl
-
-pub lacks_short : (n need : ℕ) (l : List (ℕ × ℕ)) (rest r : Bool) → r ≡ (ltb n need || rest) → rest ≡ short l → r ≡ short ((n, need) ∷ l)
-unfolding short
-lacks_short n need l rest r e f = e ∙ ap (λ (x : Bool). ltb n need || x) f
-
-pub lacking_short : (k l : List (ℕ × ℕ)) (rest r : Bool) → r ≡ lacking k rest → rest ≡ short l → r ≡ short (k ++ l)
-unfolding short
-lacking_short k l rest r e f = e ∙ ap (lacking k) f ∙ go k
-  where
-    go : (k : List (ℕ × ℕ)) → lacking k (short l) ≡ short (k ++ l)
-    go [] = refl
-    go (b ∷ k) = ap (λ (x : Bool). ltb b.0 b.1 || x) (go k)
-
-pub three_short : (a b c need : ℕ) (l : List (ℕ × ℕ)) (rest r : Bool) → r ≡ lacking ((a, need) ∷ (b, need) ∷ (c, need) ∷ []) rest → rest ≡ short l
-    → r ≡ short ((a, need) ∷ (b, need) ∷ (c, need) ∷ l)
-three_short a b c need l = lacking_short ((a, need) ∷ (b, need) ∷ (c, need) ∷ []) l
-
-pub tables_short : (cells points statuses blockers pairs : ℕ) (l : List (ℕ × ℕ)) (rest r : Bool) → r ≡ lacking (table_needs cells points statuses blockers pairs []) rest → rest ≡ short l
-    → r ≡ short (table_needs cells points statuses blockers pairs l)
-tables_short cells points statuses blockers pairs l = lacking_short (table_needs cells points statuses blockers pairs []) l
+short_one n need = sym (or-false (ltb n need))

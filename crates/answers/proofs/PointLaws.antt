@@ -1,14 +1,15 @@
--- The points of a map in the lent tables, and walks that list those that a test keeps. Assumes nothing.
-use Prim.Native.Nat.{ℕ, zero, suc, ◌+◌, ◌≤◌, ◌<◌}
+-- The points of a map in the lent tables, and those that nothing blocks. Assumes nothing.
+use Prim.Native.Nat.{ℕ, zero, suc, ◌≤◌, ◌<◌}
 use native.Mathlib.Nat.{le_of_suc-le-suc, not-suc-le-zero}
-use native.Mathlib.Numerals.{add-one}
 use native.Mathlib.Omega.{arith}
 use mathlib.Core.Path.{◌≡◌, refl, sym, ap, ◌∙◌}
-use mathlib.Core.Bool.{Bool, true, false, cond}
+use mathlib.Core.Bool.{Bool, true, false}
 use mathlib.Core.List.{List, [], ◌∷◌}
 use mathlib.Core.Option.{Option, none, some}
-use lib.ListN.{drop, drop_of_length-le, get_or, length, set, take}
-use lib.Seq.{drop-cons, length-take-le}
+use lib.Dec.{eqb}
+use lib.ListN.{get_or, length, take}
+use lib.Seq.{length-take-le}
+use borrow.Author.Tests.{eq-eqb, ne_eqb}
 use Rattle.answers.specs.Asking.{Front, Written}
 use Rattle.table.specs.Copied.{Copied}
 use Rattle.held.proofs.LayerLaws.{codes_count, layer_blocks, layer_few, layer_keys, layer_statuses, statuses_length}
@@ -18,15 +19,15 @@ use Rattle.model.specs.Answers as asked
 use Rattle.model.specs.Corner.{number, zero4}
 use Rattle.model.specs.Layer.{Point, Points}
 use Rattle.model.specs.Map as model
-use Rattle.model.specs.Maps.{keys, sift}
+use Rattle.model.specs.Maps.{keys}
 use Rattle.held.specs.Codes.{AllNamed, Named, block_code, codes}
 use Rattle.table.proofs.ListedLaws.{keys_at, keys_length}
 use Rattle.held.proofs.NamedLaws.{blocks_named_lem}
 use Rattle.held.proofs.PadLaws.{copied}
 use Rattle.held.specs.Holds.{Holds, Tables}
 use Rattle.held.specs.declared.map.Map.{Map}
-use Rattle.answers.specs.Walks.{FreeListed}
-use Rattle.answers.proofs.FillLaws.{Filling, filling_done, filling_none, filling_pass, filling_put}
+use Rattle.answers.specs.Walks.{FreeListed, picked}
+use Rattle.answers.proofs.KeepLaws.{Says, picked_keys}
 
 -- ---- the point at a place
 abbrev pub nowhere : ℕ × Point
@@ -54,13 +55,9 @@ named_at (e ∷ ps) zero a = a.0
 named_at (e ∷ ps) (suc i) a = named_at ps i a.1
 
 -- a blocker's code is 0 exactly where there is none
-zero_free : (o : Option ℕ) → Named o → block_code o ≡ 0 → free o ≡ true
-zero_free none n e = refl
-zero_free (some k) n e = absurd (omega (arith, n, e))
-
-pub some_blocks : (o : Option ℕ) → (block_code o ≡ 0 → ⊥) → free o ≡ false
-some_blocks none f = absurd (f refl)
-some_blocks (some k) f = refl
+pub block_free : (o : Option ℕ) → Named o → free o ≡ eqb (block_code o) 0
+block_free none n = refl
+block_free (some k) n = sym (ne_eqb k 0 (λ e. omega (arith, n, e)))
 
 abbrev pub unblocked : ℕ × Point → Bool
 unblocked p = free p.1.block
@@ -69,11 +66,14 @@ module _ (blockers : List ℕ) (ps : Points) (i : ℕ) (e : blockers ≡ codes (
   read_block : get_or blockers i 0 ≡ block_code (point_at ps i).1.block
   read_block = ap (λ (t : List ℕ). get_or t i 0) e ∙ block_at ps i
 
-  pub reads_free : AllNamed (blocks_of ps) → get_or blockers i 0 ≡ 0 → unblocked (point_at ps i) ≡ true
-  reads_free a z = zero_free (point_at ps i).1.block (named_at ps i a) (sym read_block ∙ z)
+  pub unblocked_is : AllNamed (blocks_of ps) → unblocked (point_at ps i) ≡ eqb (get_or blockers i 0) 0
+  unblocked_is a = block_free (point_at ps i).1.block (named_at ps i a) ∙ ap (λ (k : ℕ). eqb k 0) (sym read_block)
 
-  pub reads_blocked : (get_or blockers i 0 ≡ 0 → ⊥) → unblocked (point_at ps i) ≡ false
-  reads_blocked f = some_blocks (point_at ps i).1.block (λ z. f (read_block ∙ z))
+  pub reads_free : AllNamed (blocks_of ps) → get_or blockers i 0 ≡ 0 → unblocked (point_at ps i) ≡ true
+  reads_free a z = unblocked_is a ∙ eq-eqb (get_or blockers i 0) 0 z
+
+  pub reads_blocked : AllNamed (blocks_of ps) → (get_or blockers i 0 ≡ 0 → ⊥) → unblocked (point_at ps i) ≡ false
+  reads_blocked a f = unblocked_is a ∙ ne_eqb (get_or blockers i 0) 0 f
 
 -- ---- the used places of a table
 pub used : (n : ℕ) (t : List ℕ) → n ≤ 64 → 64 ≤ length t → length (take n t) ≡ n
@@ -99,76 +99,11 @@ module _ (m : Map) (t : Tables) (M : model.Map) (h : Holds m t M) (points status
         let w = column (take n blockers) (codes (blocks_of M.layer.points)) blocks blocks' n (ap (take n) (sym b) ∙ layer_blocks h.layer) (c ∙ sym (codes_count M.layer.points)) (omega (arith, few, rc)) z in
         (u.0, u.1, (v.0, v.1, (w.0, w.1, tt)))
 
--- ---- a loop that writes the keys of the points that a test keeps; h tells which points are lent
-module _ (H : Type 0) (points : List ℕ) (of : H → Points) (same : (h : H) → points ≡ keys (of h)) (K : ℕ × Point → Bool) where
-  abbrev left : H → ℕ → List ℕ
-  left h i = keys (sift K (drop i (of h)))
-
-  -- the table after the first i points
-  abbrev pub Keeping : List ℕ → List ℕ → ℕ → ℕ → Type 0
-  Keeping a a' n i = Filling H left (length points) a a' n i
-
-  many : (h : H) → length points ≡ length (of h)
-  many h = ap length (same h) ∙ keys_length (of h)
-
-  pub keeping_none : (a : List ℕ) → length points ≤ length a → Keeping a a 0 0
-  keeping_none a room = filling_none H left (length points) a room
-
-  module _ (a a' : List ℕ) (n i : ℕ) (w : Keeping a a' n i) where
-    module _ (more : i < length points) where
-      next : (h : H) (b : Bool) → K (point_at (of h) i) ≡ b → left h i ≡ cond b (get_or points i 0 ∷ left h (i + 1)) (left h (i + 1))
-      unfolding keys sift
-      next h b e =
-          let inside : i < length (of h) = rw (many h) at more in
-          let key : get_or points i 0 ≡ (point_at (of h) i).0 = ap (λ (t : List ℕ). get_or t i 0) (same h) ∙ key_at_lem (of h) i in
-          rw (add-one i, drop-cons (of h) i nowhere inside, key, e) (go b (sift K (drop (suc i) (of h))))
-        where
-          go : (b : Bool) (l : Points) → keys (cond b (point_at (of h) i ∷ l) l) ≡ cond b ((point_at (of h) i).0 ∷ keys l) (keys l)
-          go true l = refl
-          go false l = refl
-
-      pub keeping_put : ((h : H) → K (point_at (of h) i) ≡ true) → Keeping a (set a' n (get_or points i 0)) (n + 1) (i + 1)
-      keeping_put f = filling_put H left (length points) a a' n i w (get_or points i 0) more (λ h. next h true (f h))
-
-      pub keeping_pass : ((h : H) → K (point_at (of h) i) ≡ false) → Keeping a a' n (i + 1)
-      keeping_pass f = filling_pass H left (length points) a a' n i w more (λ h. next h false (f h))
-
-    pub keeping_all : length points ≤ i → (h : H) → Front (keys (sift K (of h))) n a a'
-    keeping_all b h = filling_done H left (length points) a a' n i w h none
-      where
-        none : left h i ≡ []
-        none = unfold keys sift in rw (drop_of_length-le (of h) (rw (many h) at b)) refl
-
--- ---- the points that nothing blocks
--- what the contract supposes of the tables
-pub record FreeShown (points blockers : List ℕ) : Type 0 where
-  pub ps : Points
-  pub keys_are : points ≡ keys ps
-  pub blocks_are : blockers ≡ codes (blocks_of ps)
-  pub named : AllNamed (blocks_of ps)
-
-module _ (points blockers : List ℕ) where
-  abbrev of : FreeShown points blockers → Points
-  of h = h.ps
-
-  abbrev same : (h : FreeShown points blockers) → points ≡ keys (of h)
-  same h = h.keys_are
-
-  abbrev pub FreeTo : List ℕ → List ℕ → ℕ → ℕ → Type 0
-  FreeTo out out' n i = Keeping (FreeShown points blockers) points of same unblocked out out' n i
-
-  pub free_none : (out : List ℕ) → length points ≤ length out → FreeTo out out 0 0
-  free_none out = keeping_none (FreeShown points blockers) points of same unblocked out
-
-  module _ (out out' : List ℕ) (n i : ℕ) (s : FreeTo out out' n i) where
-    pub free_put : i < length points → get_or blockers i 0 ≡ 0 → FreeTo out (set out' n (get_or points i 0)) (n + 1) (i + 1)
-    free_put more z = keeping_put (FreeShown points blockers) points of same unblocked out out' n i s more (λ h. reads_free blockers h.ps i h.blocks_are h.named z)
-
-    pub free_pass : i < length points → (get_or blockers i 0 ≡ 0 → ⊥) → FreeTo out out' n (i + 1)
-    free_pass more z = keeping_pass (FreeShown points blockers) points of same unblocked out out' n i s more (λ h. reads_blocked blockers h.ps i h.blocks_are z)
-
-    pub free_all : length points ≤ i → FreeListed points blockers n out out'
-    free_all b ps p q a = keeping_all (FreeShown points blockers) points of same unblocked out out' n i s b (record { ps = ps; keys_are = p; blocks_are = q; named = a })
+-- ---- the points that nothing blocks, by a walk that keeps those whose blocker's number is 0
+pub free_listed : {Post : ℕ → Bool → Type 0} (points blockers out out' : List ℕ) (r : ℕ) → ((i : ℕ) (b : Bool) → i < length points → Post i b → b ≡ eqb (get_or blockers i 0) 0)
+    → ((p : ℕ → Bool) → Says Post points p → Front (picked p points) r out out') → FreeListed points blockers r out out'
+free_listed points blockers out out' r f w ps k e n =
+    rw (picked_keys unblocked nowhere ps) at (rw k at (w (λ i. unblocked (point_at ps i)) (λ i b h c. f i b h c ∙ sym (unblocked_is blockers ps i e n))))
 
 module _ (m : Map) (t : Tables) (M : model.Map) (h : Holds m t M) (points blockers : List ℕ) (p : t.points ≡ points) (b : t.blockers ≡ blockers) where
   pub free_written : (out out' : List ℕ) (r : ℕ) → FreeListed (take m.points points) (take m.points blockers) r out out'

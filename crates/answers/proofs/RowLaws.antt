@@ -6,7 +6,6 @@ use mathlib.Core.List.{List, [], ◌∷◌, ◌++◌}
 use lib.ListN.{get_or, length, set}
 use Rattle.model.specs.Answers.{is_open}
 use Rattle.model.specs.Layer.{Layer, Pair}
-use Rattle.model.specs.Maps.{sift}
 use Rattle.held.specs.Codes.{block_code}
 use Rattle.answers.specs.Columns.{greaters, lessers, pair_blocks}
 use Rattle.answers.specs.Walks.{Grows, OpenRowListed, RowFits, RowListed, Shown, ShownOpen, open_of, row_from, row_of}
@@ -60,9 +59,6 @@ pub record Passing (most i count n j : ℕ) : Type 0 where
   pub past : i < j
   pub up : n + (i + 1) ≤ count + j
 
-passing_first : (most i count : ℕ) → i < most → Passing most i count count (i + 1)
-passing_first most i count h = record { few = omega arith; past = omega arith; up = omega arith }
-
 module _ (most i count n j : ℕ) (more : j < most) (s : Passing most i count n j) where
   passing_put : Passing most i count (n + 1) (j + 1)
   passing_put = record { few = omega arith; past = omega (arith, s.past); up = omega (arith, s.up) }
@@ -85,9 +81,6 @@ module _ (points table : List ℕ) (i count : ℕ) (hi : i < length points) (a b
 
   abbrev whole : Layer → List Pair
   whole l = row_of l i
-
-  pub row_first : RowTo points table i count count (i + 1) a a b b c c
-  row_first = record { at = passing_first (length points) i count hi; ends = ends_none H whole count a b; blocks = growing_none pair_blocks H whole count c }
 
   module _ (a' b' c' : List ℕ) (n j : ℕ) (s : RowTo points table i count n j a a' b b' c c') where
     module _ (hj : j < length points) where
@@ -145,9 +138,6 @@ module _ (points blockers table : List ℕ) (i count : ℕ) (hi : i < length poi
 
   abbrev opens : ℕ → Layer → List Pair
   opens j l = open_of l (row_from l i j)
-
-  pub open_first : OpenRowTo points blockers table i count count (i + 1) a a b b
-  open_first = record { at = passing_first (length points) i count hi; ends = ends_none O (opens (i + 1)) count a b }
 
   module _ (a' b' : List ℕ) (n j : ℕ) (s : OpenRowTo points blockers table i count n j a a' b b') where
     module _ (hj : j < length points) where

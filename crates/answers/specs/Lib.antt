@@ -5,4 +5,5 @@ pub mod CellLists
 pub mod Columns
 pub mod Found
 pub mod PairLists
+pub mod Told
 pub mod Walks

@@ -1,5 +1,5 @@
 -- What a map's five tables need; what the walks over points and pairs are lent, and what they list: the model's `pairs`, a row for each point (RULES 2.2, all pairs and open pairs; occupancy/mod.rs, `iter_points`, `iter_edges`). Definitions only.
-use Rattle.std.specs.Prelude.{ℕ, ◌+◌, ◌-◌, ◌≤◌, ◌≡◌, Bool, ◌||◌, List, [], ◌∷◌, ◌++◌, ltb, drop, get_or, length}
+use Rattle.std.specs.Prelude.{ℕ, suc, ◌+◌, ◌-◌, ◌≤◌, ◌≡◌, Bool, cond, List, [], ◌∷◌, ◌++◌, drop, get_or, length}
 use Rattle.answers.specs.Asking.{Front}
 use Rattle.answers.specs.Columns.{greaters, lessers, pair_blocks}
 use Rattle.model.specs.Answers.{free, is_open}
@@ -14,10 +14,10 @@ use Rattle.held.specs.Layers.{blocks_of, edge_at}
 abbrev pub table_needs : ℕ → ℕ → ℕ → ℕ → ℕ → List (ℕ × ℕ) → List (ℕ × ℕ)
 table_needs cells points statuses blockers pairs l = (cells, max_cells) ∷ (points, max_points) ∷ (statuses, max_points) ∷ (blockers, max_points) ∷ (pairs, pair_places) ∷ l
 
--- whether one of some lengths is short of its need, or the rest is
-abbrev pub lacking : List (ℕ × ℕ) → Bool → Bool
-lacking [] rest = rest
-lacking (b ∷ l) rest = ltb b.0 b.1 || lacking l rest
+-- ---- the entries at whose places p is true
+unfoldable pub picked : (ℕ → Bool) → List ℕ → List ℕ
+picked p [] = []
+picked p (x ∷ l) = let r = picked (λ i. p (suc i)) l in cond (p 0) (x ∷ r) r
 
 -- ---- lists of pairs
 -- u is listed after any n pairs v that are at the front of t, and there are r then; col names the column

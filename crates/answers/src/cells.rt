@@ -1,13 +1,17 @@
 // The occupied cells of a map, and those with a corner.
 ghost use Rattle.answers.specs.CellLists.{CornerCells, IsOccupied, OccupiedCells};
+ghost use Rattle.answers.specs.Told.{counted, said};
 
-use crate::judge::{Count, lacks, lacks_three, refuse, refused};
+use crate::judge::refuse;
 use held::map::Map;
 use limits::cell::Cell;
+use limits::due::Due;
+use limits::lent::is_short;
+use limits::refusal::Refusal;
 use sizes::CELLS;
 use table::copy::copy;
 
-// 0 and the answer; or the refusal's number, and no.
+// As C has it: 0 and the answer; or the refusal's number, and no.
 #[repr(C)]
 #[derive(Clone, Copy)]
 pub struct Told {
@@ -15,54 +19,58 @@ pub struct Told {
     pub yes: bool,
 }
 
+impl From<Result<bool, Refusal>> for Told {
+    ghost use Rattle.std.specs.Prelude.{◌≡◌};
+
+    ghost from_gives = { λ r o. o ≡ said r };
+
+    fn from(answer: Result<bool, Refusal>) -> Told {
+        match answer {
+            Ok(yes) => Told { refusal: 0, yes },
+            Err(refusal) => Told {
+                refusal: refusal.number(),
+                yes: false,
+            },
+        }
+    }
+}
+
 // `is_occupied`, for any pair of integers
-pub fn is_occupied(map: Map, cells: &[u64], cell: Cell) -> Told
-    ensures { IsOccupied map cells.now cell.x cell.y result }
+pub fn is_occupied(map: Map, cells: &[u64], cell: Cell) -> Result<bool, Refusal>
+    ensures { IsOccupied map cells.now cell.x cell.y (said result) }
 {
-    let number = refuse(lacks(cells.len(), CELLS, false), map, 0);
-    if number != 0 {
-        return Told {
-            refusal: number,
-            yes: false,
-        };
-    }
+    refuse(is_short(&[(cells.len(), CELLS)]), map, Due::none())?;
     let n = map.cells;
-    Told {
-        refusal: 0,
-        yes: limits::cell::is_occupied(&cells[..n], cell),
-    }
+    Ok(limits::cell::is_occupied(&cells[..n], cell))
 }
 
 // `occupied_cells`
-pub fn occupied_cells(map: Map, cells: &[u64], out: &mut [u64]) -> Count
-    ensures { OccupiedCells map cells.now out.old out.new result }
+pub fn occupied_cells(map: Map, cells: &[u64], out: &mut [u64]) -> Result<usize, Refusal>
+    ensures { OccupiedCells map cells.now out.old out.new (counted result) }
 {
-    let short = lacks(cells.len(), CELLS, lacks(out.len(), CELLS, false));
-    let number = refuse(short, map, 0);
-    if number != 0 {
-        return refused(number);
-    }
+    let short = is_short(&[(cells.len(), CELLS), (out.len(), CELLS)]);
+    refuse(short, map, Due::none())?;
     let n = map.cells;
     copy(&cells[..n], out);
-    Count {
-        refusal: 0,
-        count: n,
-    }
+    Ok(n)
 }
 
 // `corners`, with their statuses
-pub fn corner_cells(map: Map, cells: &[u64], out: &mut [u64], statuses: &mut [u8]) -> Count
-    ensures { CornerCells map cells.now out.old statuses.old out.new statuses.new result }
+pub fn corner_cells(
+    map: Map,
+    cells: &[u64],
+    out: &mut [u64],
+    statuses: &mut [u8],
+) -> Result<usize, Refusal>
+    ensures { CornerCells map cells.now out.old statuses.old out.new statuses.new (counted result) }
 {
-    let short = lacks_three(cells.len(), out.len(), statuses.len(), CELLS, false);
-    let number = refuse(short, map, 0);
-    if number != 0 {
-        return refused(number);
-    }
+    let short = is_short(&[
+        (cells.len(), CELLS),
+        (out.len(), CELLS),
+        (statuses.len(), CELLS),
+    ]);
+    refuse(short, map, Due::none())?;
     let n = map.cells;
     let found = corner::cells::corner_cells(&cells[..n], out, statuses);
-    Count {
-        refusal: 0,
-        count: found,
-    }
+    Ok(found)
 }

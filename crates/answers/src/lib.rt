@@ -4,5 +4,6 @@
 pub mod ask;
 pub mod cells;
 pub mod judge;
+pub mod keep;
 pub mod pairs;
 pub mod points;

@@ -1,12 +1,17 @@
-// The pairs of a map, each once, lesser cell first, ascending.
+// The pairs of a map, each once, lesser cell first, ascending. Tables and columns come one by one, as C lends them: each call takes
+// only those that it needs.
 ghost use Rattle.std.specs.Prelude.{◌≡◌, ◌≤◌, ◌<◌, get_or, length};
 ghost use Rattle.model.specs.Limits.{max_points, need_pairs};
 ghost use Rattle.held.specs.Pairs.{pair_places};
 ghost use Rattle.answers.specs.PairLists.{AllPairs, OpenPairs};
+ghost use Rattle.answers.specs.Told.{counted};
 ghost use Rattle.answers.specs.Walks.{AllListed, OpenListed, OpenRowListed, RowFits, RowListed};
 
-use crate::judge::{Count, lacks, lacks_three, refuse, refused};
+use crate::judge::refuse;
 use held::map::Map;
+use limits::due::Due;
+use limits::lent::is_short;
+use limits::refusal::Refusal;
 use sizes::{LISTED, PAIRS, POINTS};
 
 // The pairs of the i-th point with those after it, after the `count` pairs that are listed already.
@@ -25,8 +30,7 @@ fn list_row(
         greater.old greater.new blocks.old blocks.new }
 {
     let mut n = count;
-    let mut j = i + 1;
-    while j < points.len() {
+    for j in i + 1..points.len() {
         let code = pairs[POINTS * i + j];
         if code != 0 {
             lesser[n] = points[i];
@@ -34,11 +38,11 @@ fn list_row(
             blocks[n] = if code == 1 { 0 } else { code };
             n += 1;
         }
-        j += 1;
     }
     n
 }
 
+// All pairs, row by row.
 fn list_all(
     points: &[u64],
     pairs: &[u64],
@@ -52,10 +56,8 @@ fn list_all(
         greater.old greater.new blocks.old blocks.new }
 {
     let mut n = 0;
-    let mut i = 0;
-    while i < points.len() {
+    for i in 0..points.len() {
         n = list_row(points, pairs, i, lesser, greater, blocks, n);
-        i += 1;
     }
     n
 }
@@ -68,25 +70,24 @@ pub fn all_pairs(
     lesser: &mut [u64],
     greater: &mut [u64],
     blocks: &mut [u64],
-) -> Count
+) -> Result<usize, Refusal>
     ensures { AllPairs map points.now pairs.now lesser.old greater.old blocks.old
-        lesser.new greater.new blocks.new result }
+        lesser.new greater.new blocks.new (counted result) }
 {
-    let outputs = lacks_three(lesser.len(), greater.len(), blocks.len(), LISTED, false);
-    let short = lacks(points.len(), POINTS, lacks(pairs.len(), PAIRS, outputs));
-    let number = refuse(short, map, 0);
-    if number != 0 {
-        return refused(number);
-    }
+    let tables = [(points.len(), POINTS), (pairs.len(), PAIRS)];
+    let columns = [
+        (lesser.len(), LISTED),
+        (greater.len(), LISTED),
+        (blocks.len(), LISTED),
+    ];
+    let short = is_short(&tables) || is_short(&columns);
+    refuse(short, map, Due::none())?;
     let n = map.points;
-    let found = list_all(&points[..n], pairs, lesser, greater, blocks);
-    Count {
-        refusal: 0,
-        count: found,
-    }
+    Ok(list_all(&points[..n], pairs, lesser, greater, blocks))
 }
 
-// The open pairs of the i-th point, which nothing blocks, with those after it.
+// The open pairs of the i-th point, which nothing blocks, with those after it. Apart from `list_row`: a walk of both would take
+// two or three columns through a trait with laws, which is no plainer than a loop with its own test and its own stores.
 fn open_row(
     points: &[u64],
     blockers: &[u64],
@@ -103,18 +104,17 @@ fn open_row(
         lesser.old lesser.new greater.old greater.new }
 {
     let mut n = count;
-    let mut j = i + 1;
-    while j < points.len() {
+    for j in i + 1..points.len() {
         if pairs[POINTS * i + j] == 1 && blockers[j] == 0 {
             lesser[n] = points[i];
             greater[n] = points[j];
             n += 1;
         }
-        j += 1;
     }
     n
 }
 
+// The open pairs, row by row, but for the rows of blocked points.
 fn list_open(
     points: &[u64],
     blockers: &[u64],
@@ -128,12 +128,10 @@ fn list_open(
         lesser.old lesser.new greater.old greater.new }
 {
     let mut n = 0;
-    let mut i = 0;
-    while i < points.len() {
+    for i in 0..points.len() {
         if blockers[i] == 0 {
             n = open_row(points, blockers, pairs, i, lesser, greater, n);
         }
-        i += 1;
     }
     n
 }
@@ -146,24 +144,18 @@ pub fn open_pairs(
     pairs: &[u64],
     lesser: &mut [u64],
     greater: &mut [u64],
-) -> Count
+) -> Result<usize, Refusal>
     ensures { OpenPairs map points.now blockers.now pairs.now lesser.old greater.old
-        lesser.new greater.new result }
+        lesser.new greater.new (counted result) }
 {
-    let outputs = lacks(lesser.len(), LISTED, lacks(greater.len(), LISTED, false));
-    let short = lacks(
-        points.len(),
-        POINTS,
-        lacks(blockers.len(), POINTS, lacks(pairs.len(), PAIRS, outputs)),
-    );
-    let number = refuse(short, map, 0);
-    if number != 0 {
-        return refused(number);
-    }
+    let tables = [
+        (points.len(), POINTS),
+        (blockers.len(), POINTS),
+        (pairs.len(), PAIRS),
+    ];
+    let columns = [(lesser.len(), LISTED), (greater.len(), LISTED)];
+    let short = is_short(&tables) || is_short(&columns);
+    refuse(short, map, Due::none())?;
     let n = map.points;
-    let found = list_open(&points[..n], &blockers[..n], pairs, lesser, greater);
-    Count {
-        refusal: 0,
-        count: found,
-    }
+    Ok(list_open(&points[..n], &blockers[..n], pairs, lesser, greater))
 }

@@ -2,13 +2,13 @@
 #![tactic(auto)]
 
 ghost use Rattle.std.specs.Prelude.{◌≡◌};
-ghost use Rattle.ask_c.specs.Told.{Asked, found_of};
+ghost use Rattle.ask_c.specs.Told.{Asked};
 
 use answers::ask::ask_numbered;
 use held::map::Map;
 use limits::cell::Cell;
+use limits::refusal::Refusal;
 use plane::point::Point;
-use question::ask::{Answer, Place};
 use question::numbered::question_of;
 
 // The refusal's number, whether a cell was found, and the cell; all else is zero where there is none.
@@ -20,21 +20,21 @@ pub struct Found {
     pub cell: Cell,
 }
 
-fn told(answer: Answer) -> Found
-    ensures { result ≡ found_of answer }
-{
-    let place = answer.cell;
-    match place {
-        Place::Nothing => Found {
-            refusal: answer.refusal,
-            some: false,
-            cell: Cell { x: 0, y: 0 },
-        },
-        Place::At(cell) => Found {
-            refusal: answer.refusal,
-            some: true,
-            cell,
-        },
+impl From<Result<Option<Cell>, Refusal>> for Found {
+    ghost use Rattle.ask_c.specs.Told.{found_of};
+
+    ghost from_gives = { λ a r. r ≡ found_of a };
+
+    fn from(answer: Result<Option<Cell>, Refusal>) -> Found {
+        let (refusal, found) = match answer {
+            Ok(found) => (0, found),
+            Err(refusal) => (refusal.number(), None),
+        };
+        Found {
+            refusal,
+            some: found.is_some(),
+            cell: found.unwrap_or(Cell { x: 0, y: 0 }),
+        }
     }
 }
 
@@ -51,5 +51,6 @@ pub extern "C" fn runcedau_ask(
 ) -> Found
     ensures { Asked map cells.now shape p q extent result }
 {
-    told(ask_numbered(map, cells, question_of(shape, p, q, extent)))
+    let question = question_of(shape, p, q, extent);
+    Found::from(ask_numbered(map, cells, question))
 }

@@ -13,14 +13,6 @@ use Rattle.model.proofs.OrderLaws.{asc_l_add, asc_l_cut}
 use Rattle.table.proofs.LookLaws.{absent_length, has_absent, has_there, there_length}
 use Rattle.limits.specs.Batches.{alters}
 
-pub alters_full : (t : Bool) → not t ≡ alters t true
-alters_full true = refl
-alters_full false = refl
-
-pub alters_free : (t : Bool) → t ≡ alters t false
-alters_free true = refl
-alters_free false = refl
-
 -- an entry that fills its cell, and one that frees it
 abbrev pub fills : Bool → Bool → Bool
 fills t v = alters t v && v

@@ -1,14 +1,14 @@
 -- A listed batch written to a table: first what is to be free, then what is to be occupied. Assumes nothing.
-use Prim.Native.Nat.{ℕ, suc, ◌+◌, ◌≤◌, ◌<◌, zero-le}
+use Prim.Native.Nat.{ℕ, suc, ◌≤◌, ◌<◌, zero-le}
 use native.Mathlib.Nat.{le_refl}
-use native.Mathlib.Numerals.{add-one}
 use native.Mathlib.Omega.{arith}
 use mathlib.Core.Path.{◌≡◌, refl, sym, ap, ◌∙◌}
-use mathlib.Core.Logic.{◌≢◌}
-use mathlib.Core.Bool.{Bool, true, false, not, cond, beq}
+use mathlib.Core.Logic.{◌≢◌, ◌⊎◌, ⊎_elim}
+use mathlib.Core.Bool.{Bool, true, false, not, cond, beq, false≢true, true≢false}
+use lib.Dec.{eqb}
 use mathlib.Core.List.{List, [], ◌∷◌}
-use lib.ListN.{length, take, drop, get_or, drop_of_length-le}
-use lib.Seq.{drop-cons, length-take-le}
+use lib.ListN.{length, take}
+use lib.Seq.{length-take-le}
 use borrow.Author.Tests.{le-leb}
 use Rattle.model.specs.Batch.{Batch, cells_after, write}
 use Rattle.model.specs.Maps.{Asc, AscL, add, cut, keys}
@@ -18,8 +18,7 @@ use Rattle.table.specs.Tables.{Changed, Table, added, pad}
 use Rattle.table.proofs.TableLaws.{changed_keys, insert_table, remove_table, table_pad}
 use Rattle.limits.specs.Batches.{Written, flags, writes}
 use Rattle.table.proofs.ListedLaws.{keys_length}
-use Rattle.table.proofs.ListedLaws.{keys_at}
-use Rattle.batches.proofs.ListedLaws.{flags_at, flags_length}
+use Rattle.batches.proofs.ListedLaws.{flags_length}
 use Rattle.batches.proofs.SetLaws.{add_grows, cut_add}
 
 -- ---- an ascending batch is what its entries free, and then what they fill
@@ -78,15 +77,11 @@ insert_writes t r k t' r' c T h = (insert_table t r t' r' T k c, changed_keys t 
     room : added (length t) k (take r t) ≡ add k (take r t)
     room = unfold added in rw (le-leb (length (add k (take r t))) (length t) h) refl
 
--- ---- the loop: what is written, and the entries that are left
-pub record Writing (v : Bool) (confirmed full t : List ℕ) (n i : ℕ) (t' : List ℕ) (r : ℕ) : Type 0 where
-  pub inside : i ≤ length confirmed
+-- ---- the loop: what is written, and the entries that are left, listed by ks and fs
+pub record Writing (v : Bool) (ks fs confirmed full t : List ℕ) (n : ℕ) (t' : List ℕ) (r : ℕ) : Type 0 where
   pub same : length t' ≡ length t
   pub run : (b : Batch) → confirmed ≡ keys b → full ≡ values (flags b) → Table t n → length (writes v b (take n t)) ≤ length t
-      → Table t' r × (writes v (drop i b) (take r t') ≡ writes v b (take n t))
-
-pub writing_start : (v : Bool) (confirmed full t : List ℕ) (n : ℕ) → Writing v confirmed full t n 0 t n
-writing_start v confirmed full t n = record { inside = zero-le; same = refl; run = λ b p q T h. (T, refl) }
+      → (m : Batch) × (ks ≡ keys m) × (fs ≡ values (flags m)) × Table t' r × (writes v m (take r t') ≡ writes v b (take n t))
 
 -- what a number in the list says: of a batch's list it is 0 or 1
 abbrev pub Means : ℕ → Bool → Type 0
@@ -100,6 +95,29 @@ pub means_full : {f : ℕ} → f ≢ 0 → Means f true
 means_full h true e = refl
 means_full h false e = absurd (h e)
 
+beq_true : (z u : Bool) → beq z u ≡ true → z ≡ u
+beq_true true true h = refl
+beq_true true false h = absurd (false≢true h)
+beq_true false true h = absurd (false≢true h)
+beq_true false false h = refl
+
+beq_false : (z u : Bool) → beq z u ≡ false → z ≡ not u
+beq_false true true h = absurd (true≢false h)
+beq_false true false h = refl
+beq_false false true h = refl
+beq_false false false h = absurd (true≢false h)
+
+-- a number but 0 says occupied
+said : (f : ℕ) (z : Bool) → f ≡ cond z 1 0 → not (eqb f 0) ≡ z
+said f true e = rw e refl
+said f false e = rw e refl
+
+pub means_is : (f : ℕ) (u : Bool) → beq (not (eqb f 0)) u ≡ true → Means f u
+means_is f u h z e = beq_true z u (rw (said f z e) at h)
+
+pub means_not : (f : ℕ) (u : Bool) → beq (not (eqb f 0)) u ≡ false → Means f (not u)
+means_not f u h z e = beq_false z u (rw (said f z e) at h)
+
 beq_self : (v : Bool) → beq v v ≡ true
 beq_self true = refl
 beq_self false = refl
@@ -108,60 +126,61 @@ beq_not : (v : Bool) → beq (not v) v ≡ false
 beq_not true = refl
 beq_not false = refl
 
-module _ {v : Bool} {confirmed full t : List ℕ} {n i : ℕ} {t' : List ℕ} {r : ℕ} (w : Writing v confirmed full t n i t' r) where
-  -- the entry at i
-  next : (b : Batch) (u : Bool) (D : List ℕ) → confirmed ≡ keys b → full ≡ values (flags b) → i < length confirmed → Means (get_or full i 0) u
-      → writes v (drop i b) D ≡ writes v (drop (i + 1) b) (cond (beq u v) (write (get_or confirmed i 0) v D) D)
-  unfolding writes
-  next b u D p q h e =
-      let l : i < length b = rw (p, keys_length b) at h in
-      let x : ℕ × Bool = get_or b i (0, false) in
-      let m : Batch = drop (i + 1) b in
-      let d : drop i b ≡ x ∷ m = drop-cons b i (0, false) l ∙ ap (λ (j : ℕ). x ∷ drop j b) (sym (add-one i)) in
-      let k : get_or confirmed i 0 ≡ x.0 = ap (λ (y : List ℕ). get_or y i 0) p ∙ keys_at b i false in
-      let s : x.1 ≡ u = e x.1 (ap (λ (y : List ℕ). get_or y i 0) q ∙ flags_at b i) in
-      ap (λ (y : Batch). writes v y D) d
-      ∙ ap (λ (z : Bool). writes v m (cond (beq z v) (write x.0 v D) D)) s
-      ∙ ap (λ (j : ℕ). writes v m (cond (beq u v) (write j v D) D)) (sym k)
+-- the first entry of what is left: it is written, or passed over
+next : (v u : Bool) (k f : ℕ) (ks fs : List ℕ) (m : Batch) → k ∷ ks ≡ keys m → f ∷ fs ≡ values (flags m) → Means f u
+    → (m' : Batch) × (ks ≡ keys m') × (fs ≡ values (flags m')) × ((D : List ℕ) → writes v m D ≡ writes v m' (cond (beq u v) (write k v D) D))
+unfolding writes keys
+next v u k f ks fs [] p q h = cc
+next v u k f ks fs (e ∷ m) p q h =
+    let k-is : k ≡ e.0 = cc in
+    let f-is : f ≡ cond e.1 1 0 = cc in
+    let u-is : e.1 ≡ u = h e.1 f-is in
+    let left : ks ≡ keys m = cc in
+    let flagged : fs ≡ values (flags m) = cc in
+    (m, left, flagged, λ D. rw (k-is, u-is) refl)
 
-  pub writing_same : i < length confirmed → Means (get_or full i 0) (not v) → Writing v confirmed full t n (i + 1) t' r
-  writing_same h e = record {
-    inside = omega arith;
+module _ {v : Bool} {k f : ℕ} {ks fs confirmed full t : List ℕ} {n : ℕ} {t' : List ℕ} {r : ℕ} (w : Writing v (k ∷ ks) (f ∷ fs) confirmed full t n t' r) where
+  pub writing_same : Means f (not v) → Writing v ks fs confirmed full t n t' r
+  writing_same e = record {
     same = w.same;
-    run = λ b p q T f.
-        let g = w.run b p q T f in
-        let s : writes v (drop i b) (take r t') ≡ writes v (drop (i + 1) b) (take r t') =
-        next b (not v) (take r t') p q h e ∙ ap (λ (z : Bool). writes v (drop (i + 1) b) (cond z (write (get_or confirmed i 0) v (take r t')) (take r t'))) (beq_not v) in
-        (g.0, sym s ∙ g.1);
+    run = λ b p q T h.
+        let g = w.run b p q T h in
+        let x = next v (not v) k f ks fs g.0 g.1 g.2 e in
+        let D : List ℕ = take r t' in
+        let s : writes v g.0 D ≡ writes v x.0 D = x.3 D ∙ ap (λ (z : Bool). writes v x.0 (cond z (write k v D) D)) (beq_not v) in
+        (x.0, x.1, x.2, g.3, sym s ∙ g.4);
   }
 
-  pub writing_more : (t'' : List ℕ) (r'' : ℕ) → i < length confirmed → Means (get_or full i 0) v → length t'' ≡ length t'
-      → (Table t' r → (v ≡ true → length (add (get_or confirmed i 0) (take r t')) ≤ length t') → Table t'' r'' × (take r'' t'' ≡ write (get_or confirmed i 0) v (take r t')))
-      → Writing v confirmed full t n (i + 1) t'' r''
-  writing_more t'' r'' h e m change = record {
-    inside = omega arith;
+  pub writing_more : (t'' : List ℕ) (r'' : ℕ) → Means f v → length t'' ≡ length t'
+      → (Table t' r → (v ≡ true → length (add k (take r t')) ≤ length t') → Table t'' r'' × (take r'' t'' ≡ write k v (take r t')))
+      → Writing v ks fs confirmed full t n t'' r''
+  writing_more t'' r'' e m change = record {
     same = m ∙ w.same;
-    run = λ b p q T f.
-        let g = w.run b p q T f in
-        let k : ℕ = get_or confirmed i 0 in
+    run = λ b p q T h.
+        let g = w.run b p q T h in
+        let x = next v v k f ks fs g.0 g.1 g.2 e in
         let D : List ℕ = take r t' in
-        let s : writes v (drop i b) D ≡ writes v (drop (i + 1) b) (write k v D) =
-        next b v D p q h e ∙ ap (λ (z : Bool). writes v (drop (i + 1) b) (cond z (write k v D) D)) (beq_self v) in
-        let whole : writes v (drop (i + 1) b) (write k v D) ≡ writes v b (take n t) = sym s ∙ g.1 in
+        let T' : Table t' r = g.3 in
+        let s : writes v g.0 D ≡ writes v x.0 (write k v D) = x.3 D ∙ ap (λ (z : Bool). writes v x.0 (cond z (write k v D) D)) (beq_self v) in
+        let whole : writes v x.0 (write k v D) ≡ writes v b (take n t) = sym s ∙ g.4 in
         let fits : v ≡ true → length (add k D) ≤ length t' =
         λ y.
-        let ends : length (writes true (drop (i + 1) b) (add k D)) ≡ length (writes v b (take n t)) = ap length (ap (λ (z : Bool). writes z (drop (i + 1) b) (write k z D)) (sym y) ∙ whole) in
-        omega (arith, fills_grow (drop (i + 1) b) (add k D) (asc_l_add 0 k D zero-le g.0.asc), ends, f, w.same) in
-        let c = change g.0 fits in
-        (c.0, ap (writes v (drop (i + 1) b)) c.1 ∙ whole);
+        let ends : length (writes true x.0 (add k D)) ≡ length (writes v b (take n t)) = ap length (ap (λ (z : Bool). writes z x.0 (write k z D)) (sym y) ∙ whole) in
+        omega (arith, fills_grow x.0 (add k D) (asc_l_add 0 k D zero-le T'.asc), ends, h, w.same) in
+        let c = change T' fits in
+        (x.0, x.1, x.2, c.0, ap (writes v x.0) c.1 ∙ whole);
   }
 
-  pub writing_end : length confirmed ≤ i → Written v confirmed full t n t' r
-  unfolding writes
-  writing_end h = λ b p q T f.
-      let g = w.run b p q T f in
-      let l : length b ≤ i = rw (p, keys_length b) at h in
-      (g.0, ap (λ (m : Batch). writes v m (take r t')) (sym (drop_of_length-le b l)) ∙ g.1)
+empty : (m : Batch) → length m ≡ 0 → m ≡ []
+empty [] e = refl
+empty (x ∷ m) e = absurd (omega arith)
+
+pub writing_end : {v : Bool} {ks fs confirmed full t : List ℕ} {n : ℕ} {t' : List ℕ} {r : ℕ} → Writing v ks fs confirmed full t n t' r → (length ks ≡ 0) ⊎ (length fs ≡ 0) → Written v confirmed full t n t' r
+unfolding writes
+writing_end {v} {ks} {fs} {confirmed} {full} {t} {n} {t'} {r} w h = λ b p q T f.
+    let g = w.run b p q T f in
+    let none : g.0 ≡ [] = empty g.0 (⊎_elim (λ e. sym (keys_length g.0) ∙ sym (ap length g.1) ∙ e) (λ e. sym (flags_length g.0) ∙ sym (ap length g.2) ∙ e) h) in
+    (g.3, ap (λ (m : Batch). writes v m (take r t')) (sym none) ∙ g.4)
 
 -- ---- out, and then in
 pub commit_is : (confirmed full t : List ℕ) (n : ℕ) (t' : List ℕ) (r : ℕ) (t'' : List ℕ) (r'' : ℕ) → Written false confirmed full t n t' r → Written true confirmed full t' r t'' r''

@@ -1,7 +1,7 @@
 // A batch on the occupied cells: how many there are afterwards, what is confirmed, and the change itself. Nothing is
 // asked of a table or a batch; what is promised is promised of an ascending table and of a batch that is not
 // refused.
-ghost use Rattle.std.specs.Prelude.{◌≡◌, true, false, cond, ◌+◌, ◌<◌, ◌≤◌, pos, length, take, get_or};
+ghost use Rattle.std.specs.Prelude.{◌≡◌, false, ◌<◌, ◌≤◌, pos, length, take, get_or};
 ghost use Rattle.model.specs.Batch.{Batch, cells_after, confirmed};
 ghost use Rattle.model.specs.Cell.{key};
 ghost use Rattle.model.specs.Map.{to_batch};
@@ -11,38 +11,29 @@ ghost use Rattle.table.specs.Listed.{Listed, Unlisted, values};
 ghost use Rattle.table.specs.Tables.{Table, pad};
 ghost use Rattle.limits.specs.Batches.{Written, alters, entries, flags, is_full};
 
+use crate::lists::Changes;
 use limits::cell::Cell;
 use table::change::{insert, remove};
 use table::place::contains;
 
-// The key of the entry at i.
-fn key_at(batch: &[i64], i: usize) -> u64
-    requires { i + 2 < length batch.now }
-    ensures { result ≡ key (get_or batch.now i (pos 0)) (get_or batch.now (i + 1) (pos 0)) }
+// An entry of a batch: its key, and whether it says occupied.
+fn entry(numbers: &[i64]) -> (u64, bool)
+    requires { length numbers.now ≡ 3 }
+    ensures { (result.0 ≡ key (get_or numbers.now 0 (pos 0)) (get_or numbers.now 1 (pos 0)))
+        × (result.1 ≡ is_full (get_or numbers.now 2 (pos 0))) }
 {
-    Cell {
-        x: batch[i],
-        y: batch[i + 1],
-    }
-    .key()
-}
-
-// Whether the entry at i says occupied.
-fn full_at(batch: &[i64], i: usize) -> bool
-    requires { i + 2 < length batch.now }
-    ensures { result ≡ is_full (get_or batch.now (i + 2) (pos 0)) }
-{
-    batch[i + 2] != 0
+    let cell = Cell {
+        x: numbers[0],
+        y: numbers[1],
+    };
+    (cell.key(), numbers[2] != 0)
 }
 
 // Whether an entry alters occupancy.
 fn alters(cells: &[u64], k: u64, full: bool) -> bool
     ensures { AscL 0 cells.now → result ≡ alters (has k cells.now) full }
 {
-    if full {
-        return !contains(cells, k);
-    }
-    contains(cells, k)
+    contains(cells, k) != full
 }
 
 // How many cells are occupied after the batch. Its keys ascend, so that no entry sees what another one did.
@@ -52,33 +43,22 @@ pub fn count_after(cells: &[u64], batch: &[i64]) -> usize
 {
     let mut more = cells.len();
     let mut less = 0;
-    let mut i = 0;
-    while i + 2 < batch.len() {
-        let full = full_at(batch, i);
-        if alters(cells, key_at(batch, i), full) {
+    for numbers in batch.chunks_exact(3) {
+        let (k, full) = entry(numbers);
+        if alters(cells, k, full) {
             if full {
                 more += 1;
             } else {
                 less += 1;
             }
         }
-        i += 3;
     }
-    if more < less {
-        return 0;
-    }
-    more - less
-}
-
-// 1 for occupied, 0 for free.
-fn flag(full: bool) -> u8
-    ensures { result ≡ cond full 1 0 }
-{
-    if full { 1 } else { 0 }
+    more.saturating_sub(less)
 }
 
 // Lists the confirmed changes, each with 1 for occupied or 0 for free, and returns how many there are. Nothing is
 // written where there is no room for as many as the batch has entries.
+// Cells and flags are two lists, and not one of pairs: C lends them so.
 pub fn confirm(cells: &[u64], batch: &[i64], out: &mut [u64], full: &mut [u8]) -> usize
     ensures { (AscL 0 cells.now → unsorted (entries batch.now) ≡ false → outside (entries batch.now) ≡ false
         → length (entries batch.now) ≤ length out.old → length (entries batch.now) ≤ length full.old
@@ -94,63 +74,43 @@ pub fn confirm(cells: &[u64], batch: &[i64], out: &mut [u64], full: &mut [u8]) -
         return 0;
     }
     let mut n = 0;
-    let mut i = 0;
-    while i + 2 < batch.len() {
-        let k = key_at(batch, i);
-        let on = full_at(batch, i);
+    for numbers in batch.chunks_exact(3) {
+        let (k, on) = entry(numbers);
         if alters(cells, k, on) {
             out[n] = k;
-            full[n] = flag(on);
+            full[n] = u8::from(on);
             n += 1;
         }
-        i += 3;
     }
     n
 }
 
-// Takes the listed cells that are to be free out of the first n.
-fn take_out(cells: &mut [u64], n: usize, confirmed: &[u64], full: &[u8]) -> usize
-    requires { length confirmed.now ≤ length full.now }
-    ensures { Written false confirmed.now full.now cells.old n cells.new result }
+// Puts the listed cells that are to be occupied among the first n, or takes those that are to be free out of them.
+// A bool and no closure: it is also what the list is searched for.
+fn write(cells: &mut [u64], n: usize, changes: Changes, on: bool) -> usize
+    ensures { Written on changes.entry.cells.now changes.entry.full.now cells.old n cells.new result }
 {
     let mut used = n;
-    let mut i = 0;
-    while i < confirmed.len() {
-        if full[i] == 0 {
-            used = remove(cells, used, confirmed[i]);
+    for (&k, &full) in changes.cells.iter().zip(changes.full) {
+        if (full != 0) == on {
+            used = if on {
+                insert(cells, used, k)
+            } else {
+                remove(cells, used, k)
+            };
         }
-        i += 1;
-    }
-    used
-}
-
-// Puts the listed cells that are to be occupied among the first n.
-fn put_in(cells: &mut [u64], n: usize, confirmed: &[u64], full: &[u8]) -> usize
-    requires { length confirmed.now ≤ length full.now }
-    ensures { Written true confirmed.now full.now cells.old n cells.new result }
-{
-    let mut used = n;
-    let mut i = 0;
-    while i < confirmed.len() {
-        if full[i] != 0 {
-            used = insert(cells, used, confirmed[i]);
-        }
-        i += 1;
     }
     used
 }
 
 // Changes the first n cells as listed, and returns how many there are then. Cells are taken out before others are put in, so
 // that there is never less room than at the end.
-pub fn commit(cells: &mut [u64], n: usize, confirmed: &[u64], full: &[u8]) -> usize
-    ensures { (b : Batch) → confirmed.now ≡ keys b → full.now ≡ values (flags b) → Asc 0 b → Table cells.old n
+pub fn commit(cells: &mut [u64], n: usize, changes: Changes) -> usize
+    ensures { (b : Batch) → changes.entry.cells.now ≡ keys b → changes.entry.full.now ≡ values (flags b) → Asc 0 b → Table cells.old n
         → length (cells_after b (take n cells.old)) ≤ length cells.old
         → (cells.new ≡ pad (length cells.old) (cells_after b (take n cells.old)))
         × (result ≡ length (cells_after b (take n cells.old))) }
 {
-    if full.len() < confirmed.len() {
-        return n;
-    }
-    let used = take_out(cells, n, confirmed, full);
-    put_in(cells, used, confirmed, full)
+    let used = write(cells, n, changes, false);
+    write(cells, used, changes, true)
 }

@@ -1,19 +1,19 @@
 -- When all places are planted, there are as many roots as blocks. Assumes nothing.
-use Prim.Native.Nat.{ℕ, zero, suc, ◌+◌, ◌-◌, ◌*◌, ◌≤◌, ◌<◌, zero-le}
+use Prim.Native.Nat.{ℕ, zero, suc, ◌+◌, ◌*◌, ◌≤◌, ◌<◌, zero-le}
 use native.Mathlib.Nat.{le_antisymm, le_refl}
 use native.Mathlib.Decide.{ℕ_discrete, dec_lt}
 use native.Mathlib.Omega.{arith}
 use mathlib.Core.Path.{◌≡◌, refl, sym, ◌∙◌, subst}
 use mathlib.Core.List.{List, []}
 use lib.Dec.{T}
-use lib.ListN.{length, get_or, replicate, length-replicate}
+use lib.ListN.{length, get_or, replicate}
 use Rattle.model.specs.Blocks.{Blocks, Linked, here, on, adjacent, block_count, blocks_of}
 use Rattle.model.specs.Maps.{AscL, has}
 use Rattle.model.proofs.BlockLaws.{adjacent_sym, linked_end, linked_sym, linked_trans, pigeonhole}
 use Rattle.model.proofs.Blocks.{blocks_right}
 use Rattle.model.proofs.MapLaws.{has_at}
 use Rattle.blocks.specs.Forest.{Down, Root}
-use Rattle.blocks.specs.Grown.{Grown, Planted}
+use Rattle.blocks.specs.Grown.{Grown}
 use Rattle.blocks.proofs.ForestLaws.{root_one, root_some}
 use Rattle.blocks.proofs.PlaceLaws.{asc_one, has_place}
 
@@ -108,24 +108,13 @@ module _ (C p : List ℕ) (joined : ℕ) (a : AscL 0 C) (d : Down p) (g : Grown 
 -- ---- the loop: places from i on are planted
 pub record Counting (C p : List ℕ) (i joined : ℕ) : Type 0 where
   pub inside : i ≤ length C
-  pub long : length p ≡ 1024
-  pub down : Down p
   pub few : joined + 2 * i ≤ 2 * length C
   pub grown : AscL 0 C → Grown C p i i joined
 
-pub counting_none : (C : List ℕ) → Counting C (replicate 1024 0) (length C) 0
-counting_none C = record { inside = le_refl (length C); long = length-replicate {A = ℕ} 1024 0; down = zeros_down 1024; few = omega arith; grown = λ a. grown_none C (replicate 1024 0) }
+pub counting_none : (C p : List ℕ) → Counting C p (length C) 0
+counting_none C p = record { inside = le_refl (length C); few = omega arith; grown = λ a. grown_none C p }
 
-pub counting_more : {C p q : List ℕ} {i joined n : ℕ} → Counting C p i joined → 0 < i → length q ≡ length p → Planted C (i - 1) n p q → Counting C q (i - 1) (joined + n)
-counting_more {C} {p} {q} {i} {joined} {n} c h e P = record {
-  inside = omega (arith, c.inside);
-  long = e ∙ c.long;
-  down = P.down;
-  few = omega (arith, c.few, P.few);
-  grown = λ a. let s : i ≡ suc (i - 1) = omega arith in P.grown a joined (subst (λ (x : ℕ). Grown C p x x joined) s (c.grown a));
-}
-
-pub counting_done : {C p : List ℕ} {i joined : ℕ} → Counting C p i joined → i ≤ 0 → AscL 0 C → joined + block_count C ≡ length C
-counting_done {C} {p} {i} {joined} c h a =
+pub counting_done : {C p : List ℕ} {i joined : ℕ} → Down p → Counting C p i joined → i ≤ 0 → AscL 0 C → joined + block_count C ≡ length C
+counting_done {C} {p} {i} {joined} d c h a =
     let e : i ≡ 0 = omega arith in
-    grown_count C p joined a c.down (subst (λ (x : ℕ). Grown C p x x joined) e (c.grown a))
+    grown_count C p joined a d (subst (λ (x : ℕ). Grown C p x x joined) e (c.grown a))

@@ -122,9 +122,6 @@ pub record Climbing (p₀ : List ℕ) (at : ℕ) (p : List ℕ) (i next : ℕ) :
 climb : {p₀ p : List ℕ} {at i : ℕ} → SameRoots p₀ p → i < length p → ((r : ℕ) → Root p₀ at r → Root p i r) → Climbing p₀ at p i (get_or p i 0)
 climb {p} {i} s h f = record { same = s; inside = h; leads = f; is = refl; below = s.down i; further = s.down (get_or p i 0) }
 
-pub climb_none : {p : List ℕ} {at : ℕ} → Down p → at < length p → Climbing p at p at (get_or p at 0)
-climb_none d h = climb (record { long = refl; down = d; kept = λ i r w. w }) h (λ r w. w)
-
 module _ {p₀ p : List ℕ} {at i next : ℕ} (c : Climbing p₀ at p i next) where
   pub climb_more : next ≢ i → Climbing p₀ at (set p i (get_or p next 0)) (get_or p next 0) (get_or (set p i (get_or p next 0)) (get_or p next 0) 0)
   climb_more n = rw c.is (climb (record { long = length-set p i (two p i) ∙ c.same.long; down = down_set p i (two p i) d c.inside l; kept = λ j r w. h j r (c.same.kept j r w) })
@@ -148,9 +145,6 @@ module _ {p₀ p : List ℕ} {at i next : ℕ} (c : Climbing p₀ at p i next) w
 
 -- ---- what a join does
 module _ (p q : List ℕ) (to at root : ℕ) (from : Root p at root) (s : SameRoots p q) where
-  pub joined_same : root ≤ to → Joined to at 0 p q
-  joined_same h = record { long = s.long; down = s.down; root = root; from = from; same = λ g. (refl, s.kept); moved = λ g. absurd (omega arith) }
-
   pub joined_moved : get_or p to 0 ≡ to → to < root → root < length q → Joined to at 1 p (set q root to)
   joined_moved e h l = record {
     long = length-set q root to ∙ s.long;

@@ -51,12 +51,6 @@ later_side k x h t = go (ℕ_discrete x (k + 1)) (eqb→eq (apart (col k) (col x
     go (no o) s = let e : x ≡ k + W = omega arith in inr e
 
 -- ---- the cell `key` is sought at `at`
-pub sought_found : {C p q : List ℕ} {at key i n : ℕ} → stands key at C ≡ true → Joined i at n p q → Sought C at key i n p q
-sought_found h j = record { found = λ t. j; missed = λ t. absurd (true≢false (sym h ∙ t)) }
-
-pub sought_missed : {C : List ℕ} {at key : ℕ} (p : List ℕ) (i : ℕ) → stands key at C ≡ false → Sought C at key i 0 p p
-sought_missed p i h = record { found = λ t. absurd (true≢false (sym t ∙ h)); missed = λ t. (refl, refl) }
-
 module _ {C p q : List ℕ} {i key n : ℕ} (d : Down p) (top : get_or p i 0 ≡ i) where
   -- there is no such cell, or it does not touch
   pub met_none : n ≡ 0 → q ≡ p → (AscL 0 C → (l : ℕ) → i < l → l < length C → get_or C l 0 ≡ key → T (adjacent (get_or C i 0) key) → ⊥) → Met C i key n p q

@@ -1,11 +1,13 @@
 // The number of blocks: as many as there are cells, less one for each time that a cell joined two trees.
-ghost use Rattle.std.specs.Prelude.{◌≡◌, ◌+◌, ◌<◌, ◌≤◌, get_or, length};
+ghost use Rattle.std.specs.Prelude.{◌≡◌, ℕ, ◌+◌, ◌^◌, ◌<◌, ◌≤◌, get_or, length};
+ghost use Rattle.std.specs.Int.{from_bool};
 ghost use Rattle.model.specs.Cell.{W};
+ghost use Rattle.model.specs.Limits.{max_cells};
 ghost use Rattle.blocks.specs.Counted.{Counted};
-ghost use Rattle.blocks.specs.Forest.{Down, Sought};
+ghost use Rattle.blocks.specs.Forest.{Sought};
 ghost use Rattle.blocks.specs.Grown.{Met, Planted};
 
-use crate::forest::join;
+use crate::forest::Forest;
 use sizes::{CELLS, COLUMN};
 use table::place::{place, stands_at};
 
@@ -14,51 +16,59 @@ const LAST_ROW: u64 = COLUMN - 1;
 
 const LAST_COLUMN: u64 = COLUMN * LAST_ROW;
 
-// Joins the tree of the cell `key` to that of place i, if it is at the place `at`. Returns how many trees were joined.
-fn join_at(cells: &[u64], at: usize, key: u64, parents: &mut [usize], i: usize) -> usize
-    requires { Down parents.old × (get_or parents.old i 0 ≡ i) × (length cells.now ≤ length parents.old) }
-    ensures { Sought cells.now at key i result parents.old parents.new }
-{
-    if stands_at(cells, at, key) {
-        return join(parents, i, at);
-    }
-    0
+// Cells of which a forest has a place for each.
+#[derive(Clone, Copy)]
+struct Cells<'a> {
+    keys: &'a [u64],
+    ghost few: { length keys.now ≤ max_cells },
+    ghost words: { (k : ℕ) → get_or keys.now k 0 < 2 ^ 64 },
 }
 
-// The same for the cell above that at place i, unless this is in the last row.
-fn join_above(cells: &[u64], parents: &mut [usize], i: usize) -> usize
-    requires { Down parents.old × (get_or parents.old i 0 ≡ i) × (length cells.now ≤ length parents.old) × (i < length cells.now) }
-    ensures { Met cells.now i (get_or cells.now i 0 + 1) result parents.old parents.new }
-{
-    let k = cells[i];
-    if k % COLUMN == LAST_ROW {
-        return 0;
+impl Cells<'_> {
+    // Joins the tree of the cell `key` to that of place i, if it is at the place `at`, and says whether they were two.
+    fn join_at(self, forest: &mut Forest, at: usize, key: u64, i: usize) -> bool
+        requires { get_or forest.old.parents i 0 ≡ i }
+        ensures { Sought self.entry.keys.now at key i (from_bool result) forest.old.parents forest.new.parents }
+    {
+        stands_at(self.keys, at, key) && forest.join(i, at)
     }
-    join_at(cells, i + 1, k + 1, parents, i)
-}
 
-// The same for the cell to the right of that at place i, unless this is in the last column.
-fn join_right(cells: &[u64], parents: &mut [usize], i: usize) -> usize
-    requires { Down parents.old × (get_or parents.old i 0 ≡ i) × (length cells.now ≤ length parents.old) × (i < length cells.now) }
-    ensures { Met cells.now i (get_or cells.now i 0 + W) result parents.old parents.new }
-{
-    let k = cells[i];
-    if LAST_COLUMN <= k {
-        return 0;
+    // The same for the cell above that at place i, unless this is in the last row.
+    fn join_above(self, forest: &mut Forest, i: usize) -> bool
+        requires { (get_or forest.old.parents i 0 ≡ i) × (i < length self.keys.now) }
+        ensures { Met self.entry.keys.now i (get_or self.entry.keys.now i 0 + 1) (from_bool result) forest.old.parents forest.new.parents }
+    {
+        let k = self.keys[i];
+        if k % COLUMN == LAST_ROW {
+            return false;
+        }
+        self.join_at(forest, i + 1, k + 1, i)
     }
-    let at = i + 1 + place(&cells[i + 1..], k + COLUMN);
-    join_at(cells, at, k + COLUMN, parents, i)
-}
 
-// Plants the cell at place i, a tree of its own, and joins to it the trees of the cell above and of the one to the right. Both come
-// after it in the table. Returns how many trees were joined.
-fn plant(cells: &[u64], parents: &mut [usize], i: usize) -> usize
-    requires { Down parents.old × (length cells.now ≤ length parents.old) × (i < length cells.now) }
-    ensures { Planted cells.now i result parents.old parents.new }
-{
-    parents[i] = i;
-    let above = join_above(cells, parents, i);
-    above + join_right(cells, parents, i)
+    // The same for the cell to the right of that at place i, unless this is in the last column.
+    fn join_right(self, forest: &mut Forest, i: usize) -> bool
+        requires { (get_or forest.old.parents i 0 ≡ i) × (i < length self.keys.now) }
+        ensures { Met self.entry.keys.now i (get_or self.entry.keys.now i 0 + W) (from_bool result) forest.old.parents forest.new.parents }
+    {
+        let k = self.keys[i];
+        if LAST_COLUMN <= k {
+            return false;
+        }
+        let at = i + 1 + place(&self.keys[i + 1..], k + COLUMN);
+        self.join_at(forest, at, k + COLUMN, i)
+    }
+
+    // Plants the cell at place i, a tree of its own, and joins to it the trees of the cell above and of the one to the right. Both come
+    // after it in the table. Returns how many trees were joined.
+    fn plant(self, forest: &mut Forest, i: usize) -> usize
+        requires { i < length self.keys.now }
+        ensures { Planted self.entry.keys.now i result forest.old.parents forest.new.parents }
+    {
+        forest.parents[i] = i;
+        let above = self.join_above(forest, i);
+        let right = self.join_right(forest, i);
+        above as usize + right as usize
+    }
 }
 
 // The blocks of ascending cells. Of more than 1,024 none are counted.
@@ -69,15 +79,13 @@ pub fn count_blocks(cells: &[u64]) -> usize
     if CELLS < n {
         return 0;
     }
-    let mut parents = [0usize; CELLS];
+    let few = Cells { keys: cells };
+    let mut forest = Forest {
+        parents: [0; CELLS],
+    };
     let mut joined = 0;
-    let mut i = n;
-    while 0 < i {
-        i -= 1;
-        joined += plant(cells, &mut parents, i);
+    for i in (0..n).rev() {
+        joined += few.plant(&mut forest, i);
     }
-    if n < joined {
-        return 0;
-    }
-    n - joined
+    n.saturating_sub(joined)
 }

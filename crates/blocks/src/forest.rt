@@ -1,33 +1,47 @@
 // A forest over the places of a table: each place leads to a lesser one of its tree, or to itself, and is the root then.
 ghost use Rattle.std.specs.Prelude.{◌≡◌, ◌<◌, get_or, length};
+ghost use Rattle.std.specs.Int.{from_bool};
+ghost use Rattle.model.specs.Limits.{max_cells};
 ghost use Rattle.blocks.specs.Forest.{Down, Joined, SameRoots, Root};
 
-// The root of a place. Each place on the way is led on by two steps, so that the ways stay short.
-pub(crate) fn root_of(parents: &mut [usize], at: usize) -> usize
-    requires { Down parents.old × (at < length parents.old) }
-    ensures { Root parents.old at result × SameRoots parents.old parents.new }
-{
-    let mut i = at;
-    let mut up = parents[i];
-    while up != i {
-        let far = parents[up];
-        parents[i] = far;
-        i = far;
-        up = parents[i];
-    }
-    i
+use sizes::CELLS;
+
+// It has room for a place for each cell of a map.
+#[derive(Drop)]
+pub(crate) struct Forest {
+    pub(crate) parents: [usize; CELLS],
+    ghost full: { length parents ≡ max_cells },
+    ghost down: { Down parents },
 }
 
-// Joins the tree of `at` to that of the root `to`. Returns 1, or 0 where it is the same tree. That no tree's root comes before `to`
-// need not be known: `<=` keeps every way downwards without it.
-pub(crate) fn join(parents: &mut [usize], to: usize, at: usize) -> usize
-    requires { Down parents.old × (get_or parents.old to 0 ≡ to) × (at < length parents.old) }
-    ensures { Joined to at result parents.old parents.new }
-{
-    let root = root_of(parents, at);
-    if root <= to {
-        return 0;
+impl Forest {
+    // The root of a place. Each place on the way is led on by two steps, so that the ways stay short.
+    fn root_of(&mut self, at: usize) -> usize
+        requires { at < max_cells }
+        ensures { Root self.old.parents at result × SameRoots self.old.parents self.new.parents }
+    {
+        let mut i = at;
+        let mut up = self.parents[i];
+        while up != i {
+            let far = self.parents[up];
+            self.parents[i] = far;
+            i = far;
+            up = self.parents[i];
+        }
+        i
     }
-    parents[root] = to;
-    1
+
+    // Joins the tree of `at` to that of the root `to`, and says whether they were two. That no tree's root comes before `to` need not be
+    // known: `<=` keeps every way downwards without it.
+    pub(crate) fn join(&mut self, to: usize, at: usize) -> bool
+        requires { (get_or self.old.parents to 0 ≡ to) × (at < max_cells) }
+        ensures { Joined to at (from_bool result) self.old.parents self.new.parents }
+    {
+        let root = self.root_of(at);
+        if root <= to {
+            return false;
+        }
+        self.parents[root] = to;
+        true
+    }
 }

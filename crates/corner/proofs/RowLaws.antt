@@ -8,7 +8,6 @@ use mathlib.Core.Logic.{⊎_elim}
 use mathlib.Core.Bool.{Bool, true, false, cond}
 use mathlib.Core.List.{List, [], ◌∷◌}
 use lib.ListN.{length}
-use lib.Pow.{pow_mono}
 use borrow.Author.Tests.{lt-ltb, le-ltb, eq-eqb, ne_eqb}
 use Rattle.ieee.proofs.Tools.{lt_or_ge}
 use Rattle.model.specs.Maps.{AscL, has}
@@ -50,33 +49,25 @@ rank_next lo k (x ∷ l) a = ⊎_elim (less (rank_next (suc x) k l a.1)) more (l
         (lt_or_ge k x)
 
 -- ---- after j of the five
-pub record Row (t : List ℕ) (base at bits bit j : ℕ) : Type 0 where
+pub record Row (t : List ℕ) (base at bits j : ℕ) : Type 0 where
   pub few : j ≤ 5
   pub inside : at ≤ length t
-  pub power : bit ≡ 2 ^ j
-  pub small : bits < bit
-  pub short : bit ≤ 32
+  pub small : bits < 2 ^ j
   pub place : AscL 0 t → at ≡ rank (base + j) t
   pub seen : AscL 0 t → (i : ℕ) → i < j → on bits i ≡ has (base + i) t
 
-pub row_none : (t : List ℕ) (base at : ℕ) → Placed t base at → Row t base at 0 1 0
+pub row_none : (t : List ℕ) (base at : ℕ) → Placed t base at → Row t base at 0 0
 row_none t base at p = record {
   few = omega arith;
   inside = p.inside;
-  power = refl;
   small = omega arith;
-  short = omega arith;
   place = λ a. let e : base + 0 ≡ base = omega arith in rw e (p.place a);
   seen = λ a i b. absurd (omega arith);
 }
 
-module _ (t : List ℕ) (base at bits bit j : ℕ) (more : j < 5) (r : Row t base at bits bit j) where
-  next_power : (2 * bit ≡ 2 ^ (j + 1)) × (2 * bit ≤ 32)
-  next_power =
-      let e : 2 ^ suc j ≡ 2 ^ j * 2 = pow-suc 2 j in
-      let p : bit ≡ 2 ^ j = r.power in
-      let up : 2 ^ suc j ≤ 2 ^ 5 = pow_mono more in
-      (rw (add-one j) (omega arith), omega arith)
+module _ (t : List ℕ) (base at bits j : ℕ) (more : j < 5) (r : Row t base at bits j) where
+  next_power : 2 ^ (j + 1) ≡ 2 ^ j * 2
+  next_power = rw (add-one j) (pow-suc 2 j)
 
   next_place : AscL 0 t → rank (base + (j + 1)) t ≡ cond (stands (base + j) at t) (at + 1) at
   next_place a =
@@ -91,30 +82,23 @@ module _ (t : List ℕ) (base at bits bit j : ℕ) (more : j < 5) (r : Row t bas
       (λ b. let e : i ≡ j = omega arith in rw e last)
       (lt_or_ge i j)
 
-  pub row_hit : stands (base + j) at t ≡ true → Row t base (at + 1) (bits + bit) (2 * bit) (j + 1)
+  pub row_hit : (bit : ℕ) → bit ≡ 2 ^ j → stands (base + j) at t ≡ true → Row t base (at + 1) (bits + bit) (j + 1)
   unfolding on
-  row_hit s =
-      let e : bits + bit ≡ bits + 1 * 2 ^ j = rw r.power (omega arith) in
-      let lt : bits < 2 ^ j = rw r.power at r.small in
+  row_hit bit p s =
+      let e : bits + bit ≡ bits + 1 * 2 ^ j = omega arith in
       record {
         few = omega arith;
         inside = omega (arith, stands_inside (base + j) at t s);
-        power = next_power.0;
-        small = omega (arith, r.small);
-        short = next_power.1;
+        small = rw next_power (omega (arith, r.small));
         place = λ a. sym (next_place a ∙ rw s);
-        seen = λ a. next_seen (bits + bit) (λ i h. rw e (on_low j bits 1 i h)) a (rw e (on_top j bits 1 lt) ∙ sym s ∙ stands_has (base + j) at t a (r.place a));
+        seen = λ a. next_seen (bits + bit) (λ i h. rw e (on_low j bits 1 i h)) a (rw e (on_top j bits 1 r.small) ∙ sym s ∙ stands_has (base + j) at t a (r.place a));
       }
 
-  pub row_miss : stands (base + j) at t ≡ false → Row t base at bits (2 * bit) (j + 1)
-  row_miss s =
-      let lt : bits < 2 ^ j = rw r.power at r.small in
-      record {
-        few = omega arith;
-        inside = r.inside;
-        power = next_power.0;
-        small = omega (arith, r.small);
-        short = next_power.1;
-        place = λ a. sym (next_place a ∙ rw s);
-        seen = λ a. next_seen bits (λ i h. refl) a (ap (on bits) (sym (zero-add j)) ∙ on_beyond j bits 0 lt ∙ sym s ∙ stands_has (base + j) at t a (r.place a));
-      }
+  pub row_miss : stands (base + j) at t ≡ false → Row t base at bits (j + 1)
+  row_miss s = record {
+    few = omega arith;
+    inside = r.inside;
+    small = rw next_power (omega (arith, r.small));
+    place = λ a. sym (next_place a ∙ rw s);
+    seen = λ a. next_seen bits (λ i h. refl) a (ap (on bits) (sym (zero-add j)) ∙ on_beyond j bits 0 r.small ∙ sym s ∙ stands_has (base + j) at t a (r.place a));
+  }

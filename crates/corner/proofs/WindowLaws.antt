@@ -7,6 +7,7 @@ use mathlib.Core.Bool.{Bool, true, false, not, cond, ◌&&◌, ◌||◌}
 use mathlib.Core.List.{List, [], ◌∷◌}
 use lib.Bits.{bit_or, bit_xor}
 use lib.ListN.{length, take, get_or}
+use lib.Pow.{pow-add}
 use Rattle.ieee.proofs.Tools.{lt_or_ge}
 use Rattle.model.specs.Cell.{W, SW, SE, NW, NE}
 use Rattle.model.specs.Corner.{corner, number, status_of}
@@ -29,32 +30,38 @@ next_column a n i j h =
     let d : a + 32 * n ≡ a + n * 2 ^ 5 = omega arith in
     rw (e, d) (on_high 5 a n (5 * i + j) h)
 
-module _ (t : List ℕ) (low a b c d e : ℕ) (ha : a < 32) (hb : b < 32) (hc : c < 32) (hd : d < 32) where
-  abbrev Column : ℕ → ℕ → Type 0
-  Column n base = (j : ℕ) → j < 5 → on n j ≡ has (base + j) t
+-- the columns from the i-th on are in the word n
+pub record Columns (t : List ℕ) (low n i : ℕ) : Type 0 where
+  pub few : i ≤ 5
+  pub small : n < 2 ^ (5 * (5 - i))
+  pub seen : AscL 0 t → (c j : ℕ) → i + c < 5 → j < 5 → on n (5 * c + j) ≡ has (low + ((i + c) * W + j)) t
 
-  pub window_sees : Column a low → Column b (low + W) → Column c (low + 2 * W) → Column d (low + 3 * W) → Column e (low + 4 * W)
-      → Sees (a + 32 * (b + 32 * (c + 32 * (d + 32 * e)))) t low
-  window_sees ra rb rc rd re zero j hi hj =
-      let k : low + j ≡ low + (0 * W + j) = omega arith in
-      first_column a (b + 32 * (c + 32 * (d + 32 * e))) j hj ∙ ra j hj ∙ ap (λ (x : ℕ). has x t) k
-  window_sees ra rb rc rd re (suc zero) j hi hj =
-      let k : low + W + j ≡ low + (1 * W + j) = omega arith in
-      next_column a (b + 32 * (c + 32 * (d + 32 * e))) 0 j ha ∙ first_column b (c + 32 * (d + 32 * e)) j hj ∙ rb j hj ∙ ap (λ (x : ℕ). has x t) k
-  window_sees ra rb rc rd re (suc (suc zero)) j hi hj =
-      let k : low + 2 * W + j ≡ low + (2 * W + j) = omega arith in
-      next_column a (b + 32 * (c + 32 * (d + 32 * e))) 1 j ha ∙ next_column b (c + 32 * (d + 32 * e)) 0 j hb
-      ∙ first_column c (d + 32 * e) j hj ∙ rc j hj ∙ ap (λ (x : ℕ). has x t) k
-  window_sees ra rb rc rd re (suc (suc (suc zero))) j hi hj =
-      let k : low + 3 * W + j ≡ low + (3 * W + j) = omega arith in
-      next_column a (b + 32 * (c + 32 * (d + 32 * e))) 2 j ha ∙ next_column b (c + 32 * (d + 32 * e)) 1 j hb
-      ∙ next_column c (d + 32 * e) 0 j hc ∙ first_column d e j hj ∙ rd j hj ∙ ap (λ (x : ℕ). has x t) k
-  window_sees ra rb rc rd re (suc (suc (suc (suc zero)))) j hi hj =
-      let k : low + 4 * W + j ≡ low + (4 * W + j) = omega arith in
-      let z : 5 * 0 + j ≡ j = omega arith in
-      next_column a (b + 32 * (c + 32 * (d + 32 * e))) 3 j ha ∙ next_column b (c + 32 * (d + 32 * e)) 2 j hb
-      ∙ next_column c (d + 32 * e) 1 j hc ∙ next_column d e 0 j hd ∙ ap (on e) z ∙ re j hj ∙ ap (λ (x : ℕ). has x t) k
-  window_sees ra rb rc rd re (suc (suc (suc (suc (suc i))))) j hi hj = absurd (omega arith)
+pub columns_none : (t : List ℕ) (low : ℕ) → Columns t low 0 5
+columns_none t low = record { few = omega arith; small = omega arith; seen = λ a c j h k. absurd (omega arith) }
+
+module _ (t : List ℕ) (low n i : ℕ) (s : Columns t low n i) where
+  pub columns_next : (k w : ℕ) → k + 1 ≡ i → w < 32 → (AscL 0 t → (j : ℕ) → j < 5 → on w j ≡ has (low + k * W + j) t) → Columns t low (w + 32 * n) k
+  columns_next k w e h col = record {
+    few = omega (arith, s.few);
+    small =
+        let d : 5 * (5 - k) ≡ 5 * (5 - i) + 5 = omega (arith, s.few) in
+        rw (d, pow-add 2 (5 * (5 - i)) 5) (omega (arith, s.small));
+    seen = λ a. go a;
+  }
+    where
+      go : AscL 0 t → (c j : ℕ) → k + c < 5 → j < 5 → on (w + 32 * n) (5 * c + j) ≡ has (low + ((k + c) * W + j)) t
+      go a zero j hc hj =
+          let d : low + k * W + j ≡ low + ((k + 0) * W + j) = omega arith in
+          first_column w n j hj ∙ col a j hj ∙ ap (λ (x : ℕ). has x t) d
+      go a (suc c) j hc hj =
+          let d : low + ((i + c) * W + j) ≡ low + ((k + suc c) * W + j) = omega arith in
+          let q : 5 * suc c + j ≡ 5 * (c + 1) + j = omega arith in
+          rw q (next_column w n c j h) ∙ s.seen a c j (omega arith) hj ∙ ap (λ (x : ℕ). has x t) d
+
+pub columns_all : (t : List ℕ) (low n : ℕ) → Columns t low n 0 → AscL 0 t → Sees n t low
+columns_all t low n s a = λ c j hc hj.
+    let d : low + ((0 + c) * W + j) ≡ low + (c * W + j) = omega arith in
+    s.seen a c j (omega arith) hj ∙ ap (λ (x : ℕ). has x t) d
 
 pub sees_none : (t : List ℕ) (low : ℕ) → length t ≡ 0 → Sees 0 t low
 unfolding has

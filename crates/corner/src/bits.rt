@@ -6,10 +6,10 @@ ghost use Rattle.corner.specs.Weights.{dir, weight};
 // A corner of a cell.
 #[derive(Clone, Copy)]
 pub enum Corner {
-    Southwest,
-    Southeast,
-    Northwest,
-    Northeast,
+    Southwest = 1,
+    Southeast = 2,
+    Northwest = 4,
+    Northeast = 8,
 }
 
 // Which corners a cell has.
@@ -22,12 +22,7 @@ impl Corner {
     pub(crate) fn bit(self) -> u8
         ensures { result ≡ weight (dir self) }
     {
-        match self {
-            Corner::Southwest => 1,
-            Corner::Southeast => 2,
-            Corner::Northwest => 4,
-            Corner::Northeast => 8,
-        }
+        self as u8
     }
 }
 

@@ -15,22 +15,17 @@ pub fn corner_cells(cells: &[u64], out: &mut [u64], statuses: &mut [u8]) -> usiz
         → Unlisted out.old out.new statuses.old statuses.new result)
         × (result ≤ length cells.now) }
 {
-    if out.len() < cells.len() {
-        return 0;
-    }
-    if statuses.len() < cells.len() {
+    if out.len() < cells.len() || statuses.len() < cells.len() {
         return 0;
     }
     let mut n = 0;
-    let mut i = 0;
-    while i < cells.len() {
-        let s = status_of(cells, cells[i]);
+    for &k in cells {
+        let s = status_of(cells, k);
         if s != 0 {
-            out[n] = cells[i];
+            out[n] = k;
             statuses[n] = s;
             n += 1;
         }
-        i += 1;
     }
     n
 }

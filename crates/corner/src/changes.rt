@@ -10,7 +10,7 @@ ghost use Rattle.corner.specs.Changes.{Inner, Toggled, numbered};
 ghost use Rattle.corner.specs.Added.{Added, Given, fresh_at};
 ghost use Rattle.corner.specs.Window.{gathered, picked_at};
 
-use crate::window::{Corners, beside, corners_of, differing_but, status_at, window};
+use crate::window::{Corners, SIDE, beside, corners_of, differing_but, status_at, window};
 use sizes::{COLUMN, TWO_COLUMNS};
 
 // From the lowest cell of a window to the first of its nine inner cells, and to the one in the middle; the first key that
@@ -19,10 +19,16 @@ const INNER: u64 = COLUMN + 1;
 
 const MIDDLE: u64 = TWO_COLUMNS + 2;
 
-const OUTERMOST: u64 = 18446744073709551615 - (MIDDLE - 1);
+const OUTERMOST: u64 = u64::MAX - (MIDDLE - 1);
+
+// The bit of the first inner cell, and the word whose only bit is the middle's.
+const INNER_BIT: u64 = SIDE + 1;
+
+const MIDDLE_BIT: u64 = 1 << (2 * SIDE + 2);
 
 // Writes those of a window's nine inner cells whose bit is set, with their statuses, to the n-th places on. Returns how
 // many places are filled then.
+// The two lists and `n` are no struct: lent, it would ask each contract to say that it still names the same lists.
 fn put_nine(
     low: u64,
     fresh: u64,
@@ -37,18 +43,15 @@ fn put_nine(
         out.old out.new statuses.old statuses.new n result }
 {
     let mut m = n;
-    let mut d = 0;
-    while d < 9 {
+    for d in 0..9 {
         let i = d / 3;
         let j = d % 3;
-        let c = 6 + (i * 5 + j);
-        let bit = (fresh >> c) % 2;
-        if bit == 1 {
+        let c = INNER_BIT + (i * SIDE + j);
+        if (fresh >> c) % 2 == 1 {
             out[m] = low + INNER + (i * COLUMN + j);
             statuses[m] = status_at(w, c);
             m += 1;
         }
-        d += 1;
     }
     m
 }
@@ -68,10 +71,7 @@ fn put_around(
         out.old out.new statuses.old statuses.new n result) }
 {
     let e = confirmed[i];
-    if e < MIDDLE {
-        return n;
-    }
-    if OUTERMOST <= e {
+    if e < MIDDLE || OUTERMOST <= e {
         return n;
     }
     let low = e - MIDDLE;
@@ -79,13 +79,14 @@ fn put_around(
     let toggled = window(confirmed, low);
     let was = corners_of(before);
     let now = corners_of(before ^ toggled);
-    let met = beside(toggled % 4096);
+    let met = beside(toggled % MIDDLE_BIT);
     put_nine(low, differing_but(was, now, met), now, out, statuses, n)
 }
 
 // The corner changes of a batch that toggles the cells `confirmed`, ascending: the cells whose
 // status altered, each once, in the order met, with their new statuses. Returns how many there are. Nothing is
 // written where there is no room for nine times as many as were confirmed.
+// Cells and statuses are two lists, and not one of pairs: C lends them so.
 pub fn corner_changes(
     cells: &[u64],
     confirmed: &[u64],
@@ -103,17 +104,12 @@ pub fn corner_changes(
         × (result ≤ 9 * length confirmed.now) }
 {
     let room = 9 * confirmed.len();
-    if out.len() < room {
-        return 0;
-    }
-    if statuses.len() < room {
+    if out.len() < room || statuses.len() < room {
         return 0;
     }
     let mut n = 0;
-    let mut i = 0;
-    while i < confirmed.len() {
+    for i in 0..confirmed.len() {
         n = put_around(cells, confirmed, i, out, statuses, n);
-        i += 1;
     }
     n
 }

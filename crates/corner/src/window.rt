@@ -5,9 +5,12 @@ ghost use Rattle.model.specs.Maps.{AscL, has};
 ghost use Rattle.table.specs.Search.{Placed};
 ghost use Rattle.corner.specs.Window.{Sees, beside, differing, northeasts, northwests, on, southeasts, southwests, status_at};
 
-use sizes::{COLUMN, FOUR_COLUMNS, THREE_COLUMNS, TWO_COLUMNS};
+use sizes::COLUMN;
 use table::place::stands_at;
 use table::places::places_of;
+
+// How many rows, and how many columns, a window has.
+pub(crate) const SIDE: u64 = 5;
 
 // Which cells have which corner.
 #[derive(Clone, Copy)]
@@ -25,15 +28,11 @@ fn five(t: &[u64], place: usize, base: u64) -> u64
 {
     let mut at = place;
     let mut bits = 0;
-    let mut bit = 1;
-    let mut j = 0;
-    while j < 5 {
+    for j in 0..SIDE {
         if stands_at(t, at, base + j) {
-            bits += bit;
+            bits += 1 << j;
             at += 1;
         }
-        bit = 2 * bit;
-        j += 1;
     }
     bits
 }
@@ -46,13 +45,12 @@ pub(crate) fn window(t: &[u64], low: u64) -> u64
     if t.len() == 0 {
         return 0;
     }
-    let f = places_of(t, low);
-    let a = five(t, f.a, low);
-    let b = five(t, f.b, low + COLUMN);
-    let c = five(t, f.c, low + TWO_COLUMNS);
-    let d = five(t, f.d, low + THREE_COLUMNS);
-    let e = five(t, f.e, low + FOUR_COLUMNS);
-    a + 32 * (b + 32 * (c + 32 * (d + 32 * e)))
+    let places = places_of(t, low);
+    let mut bits = 0;
+    for i in (0..SIDE).rev() {
+        bits = five(t, places[i as usize], low + i * COLUMN) + 32 * bits;
+    }
+    bits
 }
 
 // The corners of all cells of a window at once. Those at its border are of no use.

@@ -1,4 +1,5 @@
-// The points and pairs of a map under C names. Each function is the call of that name, with its contract.
+// The points and pairs of a map under C names. Each function is the call of that name, with its contract, and
+// its answer as C has it.
 #![tactic(auto)]
 
 ghost use Rattle.answers.specs.PairLists.{AllPairs, AllPoints, FreePoints, OpenPairs};
@@ -22,7 +23,7 @@ pub extern "C" fn runcedau_all_points(
     ensures { AllPoints map points.now statuses.now blockers.now out.old bits.old
         blocks.old out.new bits.new blocks.new result }
 {
-    all_points(map, points, statuses, blockers, out, bits, blocks)
+    Count::from(all_points(map, points, statuses, blockers, out, bits, blocks))
 }
 
 // The points that nothing blocks.
@@ -35,7 +36,7 @@ pub extern "C" fn runcedau_free_points(
 ) -> Count
     ensures { FreePoints map points.now blockers.now out.old out.new result }
 {
-    free_points(map, points, blockers, out)
+    Count::from(free_points(map, points, blockers, out))
 }
 
 // All pairs, lesser cell first, and their blockers.
@@ -51,7 +52,7 @@ pub extern "C" fn runcedau_all_pairs(
     ensures { AllPairs map points.now pairs.now lesser.old greater.old blocks.old
         lesser.new greater.new blocks.new result }
 {
-    all_pairs(map, points, pairs, lesser, greater, blocks)
+    Count::from(all_pairs(map, points, pairs, lesser, greater, blocks))
 }
 
 // The pairs that nothing blocks, nor either of their ends.
@@ -67,5 +68,5 @@ pub extern "C" fn runcedau_open_pairs(
     ensures { OpenPairs map points.now blockers.now pairs.now lesser.old greater.old
         lesser.new greater.new result }
 {
-    open_pairs(map, points, blockers, pairs, lesser, greater)
+    Count::from(open_pairs(map, points, blockers, pairs, lesser, greater))
 }

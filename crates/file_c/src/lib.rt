@@ -1,4 +1,5 @@
-// Map files and listings under C names. Each function is the call that it makes, with its contract.
+// Map files and listings under C names. Each function is the call that it makes, with its contract, and its
+// answer as C has it.
 #![tactic(auto)]
 
 ghost use Rattle.held.specs.Holds.{tables_of};
@@ -8,6 +9,7 @@ ghost use Rattle.report.specs.Reported.{MapListed};
 
 use answers::judge::Count;
 use held::map::Map;
+use held::tables::{Tables, View};
 use mapfile::file::{Opened, read_file};
 use report::file::list_file;
 use report::map::list_map;
@@ -17,7 +19,7 @@ use report::map::list_map;
 pub extern "C" fn runcedau_list_file(bytes: &[u8], out: &mut [u8]) -> Count
     ensures { Listed bytes.now out.old out.new result }
 {
-    list_file(bytes, out)
+    Count::from(list_file(bytes, out))
 }
 
 // Reads a map file into the tables; a refused one leaves them as they were.
@@ -34,7 +36,14 @@ pub extern "C" fn runcedau_lent_read(
         (tables_of cells.old points.old statuses.old blockers.old pairs.old)
         (tables_of cells.new points.new statuses.new blockers.new pairs.new) result }
 {
-    read_file(bytes, cells, points, statuses, blockers, pairs)
+    let mut tables = Tables {
+        cells,
+        points,
+        statuses,
+        blockers,
+        pairs,
+    };
+    Opened::from(read_file(bytes, &mut tables))
 }
 
 // The listing of a map, and how many bytes it has.
@@ -51,5 +60,12 @@ pub extern "C" fn runcedau_lent_list(
     ensures { MapListed map cells.now points.now statuses.now blockers.now pairs.now
         out.old out.new result }
 {
-    list_map(map, cells, points, statuses, blockers, pairs, out)
+    let tables = View {
+        cells,
+        points,
+        statuses,
+        blockers,
+        pairs,
+    };
+    Count::from(list_map(map, tables, out))
 }

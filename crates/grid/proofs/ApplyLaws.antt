@@ -59,7 +59,7 @@ module _ (floor : Floor) (l : List Entry) (t conf conf' full full' corn corn' st
 
       pub applied : Done floor C l (record { cells = t; confirmed = conf; full = full; corners = corn; altered = stat })
           (record { cells = w ++ drop max_cells t; confirmed = conf'; full = full'; corners = corn'; altered = stat' })
-          (record { refusal = 0; confirmed = changes; corners = changed; floor = record { size = floor.size; cells = after } })
+          (record { confirmed = changes; corners = changed; floor = record { size = floor.size; cells = after } })
       applied =
           let e : changes ≡ length ch = listed.count ∙ flags_count ch in
           let f : changed ≡ length (corner_changes C C' ch) = corners.count ∙ numbered_count (corner_changes C C' ch) in

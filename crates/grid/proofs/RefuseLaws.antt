@@ -1,60 +1,46 @@
 -- A batch's refusals in their order. Assumes nothing.
-use Prim.Native.Nat.{ℕ, ◌≤◌, ◌<◌}
+use Prim.Native.Nat.{ℕ, suc, ◌≤◌}
 use native.Mathlib.Nat.{suc-ne-zero}
+use native.Mathlib.Omega.{arith}
 use mathlib.Core.Path.{◌≡◌, refl, sym, ◌∙◌}
-use mathlib.Core.Bool.{Bool, true, false, cond, ◌||◌, or-false, true≢false}
+use mathlib.Core.Bool.{Bool, true, false, cond}
 use mathlib.Core.List.{List, [], ◌∷◌, ◌++◌}
 use lib.Dec.{ltb}
 use lib.IntN.{ℤ}
 use lib.ListN.{length}
 use lib.Ieee.{Float}
-use borrow.Author.Tests.{lt-ltb, le-ltb, ltb-false}
+use borrow.Author.Tests.{ltb-false}
 use Rattle.model.proofs.DueLaws.{or_parts}
 use Rattle.model.specs.Limits.{max_batch, max_cells, need_confirmed, need_corners}
 use Rattle.model.specs.Refusal.{first_due, is_due, order, verdict, short, bad_size, unsorted, outside}
 use Rattle.limits.proofs.WordLaws.{judged}
 use Rattle.limits.specs.Batches.{disorder, entries, ragged}
 use Rattle.limits.specs.Words.{first_on, looked, unless_long, word_on}
-use Rattle.grid.specs.Change.{refuse_change, short_of}
+use Rattle.grid.specs.Change.{Lent, refuse_change, short_for, short_of}
 
--- ---- 9: the first table that is short
-module _ (a b c d e : ℕ) where
-  pub short_cells : a < max_cells → true ≡ short_of a b c d e
-  unfolding short_of short
-  short_cells h = rw (lt-ltb a max_cells h) refl
+-- ---- 9: where no table is short
+pub record Enough (t : Lent) : Type 0 where
+  pub cells : max_cells ≤ length t.cells
+  pub confirmed : need_confirmed ≤ length t.confirmed
+  pub full : need_confirmed ≤ length t.full
+  pub corners : need_corners ≤ length t.corners
+  pub altered : need_corners ≤ length t.altered
 
-  module _ (ha : max_cells ≤ a) where
-    pub short_confirmed : b < need_confirmed → true ≡ short_of a b c d e
-    unfolding short_of short
-    short_confirmed h = rw (le-ltb a max_cells ha, lt-ltb b need_confirmed h) refl
-
-    module _ (hb : need_confirmed ≤ b) where
-      pub short_full : c < need_confirmed → true ≡ short_of a b c d e
-      unfolding short_of short
-      short_full h = rw (le-ltb a max_cells ha, le-ltb b need_confirmed hb, lt-ltb c need_confirmed h) refl
-
-      module _ (hc : need_confirmed ≤ c) where
-        pub short_corners : d < need_corners → true ≡ short_of a b c d e
-        unfolding short_of short
-        short_corners h = rw (le-ltb a max_cells ha, le-ltb b need_confirmed hb, le-ltb c need_confirmed hc, lt-ltb d need_corners h) refl
-
-        pub short_altered : need_corners ≤ d → ltb e need_corners ≡ short_of a b c d e
-        unfolding short_of short
-        short_altered h = rw (le-ltb a max_cells ha, le-ltb b need_confirmed hb, le-ltb c need_confirmed hc, le-ltb d need_corners h) (sym (or-false (ltb e need_corners)))
-
-  -- where none is short
-  pub long_enough : short_of a b c d e ≡ false → (max_cells ≤ a) × (need_confirmed ≤ b) × (need_confirmed ≤ c) × (need_corners ≤ d) × (need_corners ≤ e)
-  unfolding short_of short
-  long_enough z = go (ltb a max_cells) (ltb b need_confirmed) (ltb c need_confirmed) (ltb d need_corners) (ltb e need_corners) refl refl refl refl refl z
-    where
-      go : (u v w x y : Bool) → ltb a max_cells ≡ u → ltb b need_confirmed ≡ v → ltb c need_confirmed ≡ w → ltb d need_corners ≡ x → ltb e need_corners ≡ y → (u || (v || (w || (x || (y || false))))) ≡ false
-          → (max_cells ≤ a) × (need_confirmed ≤ b) × (need_confirmed ≤ c) × (need_corners ≤ d) × (need_corners ≤ e)
-      go true v w x y p q r s t z = absurd (true≢false z)
-      go false true w x y p q r s t z = absurd (true≢false z)
-      go false false true x y p q r s t z = absurd (true≢false z)
-      go false false false true y p q r s t z = absurd (true≢false z)
-      go false false false false true p q r s t z = absurd (true≢false z)
-      go false false false false false p q r s t z = (ltb-false a max_cells p, ltb-false b need_confirmed q, ltb-false c need_confirmed r, ltb-false d need_corners s, ltb-false e need_corners t)
+pub long_enough : (t : Lent) → short_for t ≡ false → Enough t
+unfolding short_of short
+long_enough t z =
+    let p = or_parts (ltb (length t.cells) max_cells) _ z in
+    let q = or_parts (ltb (length t.confirmed) need_confirmed) _ p.1 in
+    let r = or_parts (ltb (length t.full) need_confirmed) _ q.1 in
+    let s = or_parts (ltb (length t.corners) need_corners) _ r.1 in
+    let u = or_parts (ltb (length t.altered) need_corners) _ s.1 in
+    record {
+      cells = ltb-false (length t.cells) max_cells p.0;
+      confirmed = ltb-false (length t.confirmed) need_confirmed q.0;
+      full = ltb-false (length t.full) need_confirmed r.0;
+      corners = ltb-false (length t.corners) need_corners s.0;
+      altered = ltb-false (length t.altered) need_corners u.0;
+    }
 
 -- ---- all of them, in turn
 abbrev batch_then : Bool → Bool → Bool → ℕ → ℕ

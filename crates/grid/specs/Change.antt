@@ -1,6 +1,5 @@
 -- For floors, at no border: a batch on a floor, whole: its refusals, its answer, and every lent table afterwards. Definitions only.
-use Rattle.std.specs.Prelude.{ℕ, suc, ◌≤◌, ◌≡◌, ◌⊎◌, Bool, false, List, [], ◌∷◌, ◌++◌, ltb, ℤ, length, drop, Float}
-use Rattle.ieee.specs.Constants.{nought}
+use Rattle.std.specs.Prelude.{ℕ, suc, ◌≤◌, ◌≡◌, ◌⊎◌, Bool, false, List, [], ◌∷◌, ◌++◌, ltb, ℤ, length, drop, Float, Result, Ok}
 use Rattle.model.specs.Batch.{cells_after, confirmed, corner_changes}
 use Rattle.model.specs.Limits.{max_batch, max_cells, need_confirmed, need_corners}
 use Rattle.model.specs.Map.{Entry, to_batch}
@@ -10,8 +9,11 @@ use Rattle.table.specs.Listed.{Listed}
 use Rattle.table.specs.Tables.{pad}
 use Rattle.limits.specs.Floor.{Holds}
 use Rattle.limits.specs.Batches.{disorder, entries, flags}
+use Rattle.limits.specs.Refusals.{code}
+use Rattle.batches.specs.declared.lists.Outputs.{Outputs}
 use Rattle.grid.specs.declared.change.Changed.{Changed}
 use Rattle.limits.specs.declared.floor.Floor.{Floor}
+use Rattle.limits.specs.declared.refusal.Refusal.{Refusal}
 
 -- ---- the lent tables: the cells; the confirmed changes with 1 or 0; the corner changes with their statuses
 pub record Lent : Type 0 where
@@ -23,6 +25,9 @@ pub record Lent : Type 0 where
 
 abbrev pub lent_of : List ℕ → List ℕ → List ℕ → List ℕ → List ℕ → Lent
 lent_of cells confirmed full corners altered = record { cells = cells; confirmed = confirmed; full = full; corners = corners; altered = altered }
+
+abbrev pub lists_of : List ℕ → Outputs → Lent
+lists_of cells o = lent_of cells o.confirmed.now o.full.now o.corners.now o.altered.now
 
 -- each length with its need
 unfoldable pub short_of : ℕ → ℕ → ℕ → ℕ → ℕ → Bool
@@ -41,13 +46,9 @@ refuse_change lent c b crowded =
 abbrev pub refuse_input : Floor → List ℤ → Lent → ℕ
 refuse_input floor b t = refuse_change (short_for t) floor.size b (ltb max_cells floor.cells)
 
--- a refused call answers its number, and all else is zero
-abbrev pub refused_with : ℕ → Changed
-refused_with n = record { refusal = n; confirmed = 0; corners = 0; floor = record { size = nought; cells = 0 } }
-
 -- ---- what an accepted batch of the entries l makes of the cells C and the tables t
 pub record Done (floor : Floor) (C : List ℕ) (l : List Entry) (t t' : Lent) (r : Changed) : Type 0 where
-  pub answer : r ≡ record { refusal = 0; confirmed = length (confirmed (to_batch l) C); corners = length (corner_changes C (cells_after (to_batch l) C) (confirmed (to_batch l) C)); floor = record { size = floor.size; cells = length (cells_after (to_batch l) C) } }
+  pub answer : r ≡ record { confirmed = length (confirmed (to_batch l) C); corners = length (corner_changes C (cells_after (to_batch l) C) (confirmed (to_batch l) C)); floor = record { size = floor.size; cells = length (cells_after (to_batch l) C) } }
   pub cells : t'.cells ≡ pad max_cells (cells_after (to_batch l) C) ++ drop max_cells t.cells
   pub holds : Holds t'.cells (length (cells_after (to_batch l) C)) (cells_after (to_batch l) C)
   pub changes : Listed (flags (confirmed (to_batch l) C)) t.confirmed t'.confirmed t.full t'.full r.confirmed
@@ -63,12 +64,12 @@ pub record Applying (t : List ℕ) (n : ℕ) (C : List ℕ) (l : List Entry) (c 
   pub corners : need_corners ≤ c
   pub altered : need_corners ≤ s
 
--- ---- the call. A floor whose table holds no cells so (no call gives one) may only be refused, or changed in a way that is not promised
-pub record Changing (floor : Floor) (b : List ℤ) (t t' : Lent) (r : Changed) : Type 0 where
-  pub input : (n : ℕ) → refuse_input floor b t ≡ suc n → r ≡ refused_with (suc n)
-  pub refusal : (C : List ℕ) → Holds t.cells floor.cells C → r.refusal ≡ refuse_change (short_for t) floor.size b (ltb max_cells (length (cells_after (to_batch (entries b)) C)))
-  pub refused : (n : ℕ) → r.refusal ≡ suc n → (t' ≡ t) × (r ≡ refused_with (suc n))
-  pub done : (C : List ℕ) → Holds t.cells floor.cells C → r.refusal ≡ 0 → Done floor C (entries b) t t' r
+-- ---- the call: a refused one answers its refusal and leaves every table as it was. A floor whose table holds no cells so (no call gives one) may only be refused, or changed in a way that is not promised
+pub record Changing (floor : Floor) (b : List ℤ) (t t' : Lent) (r : Result Changed Refusal) : Type 0 where
+  pub input : (n : ℕ) → refuse_input floor b t ≡ suc n → code r ≡ suc n
+  pub refusal : (C : List ℕ) → Holds t.cells floor.cells C → code r ≡ refuse_change (short_for t) floor.size b (ltb max_cells (length (cells_after (to_batch (entries b)) C)))
+  pub refused : (n : ℕ) → code r ≡ suc n → t' ≡ t
+  pub done : (C : List ℕ) → Holds t.cells floor.cells C → (c : Changed) → r ≡ Ok c → Done floor C (entries b) t t' c
 
 -- the calls that the record above decides whole: of a floor that holds its cells, and any that the input alone refuses
 abbrev pub Decided : Floor → List ℤ → Lent → Type 0

@@ -1,98 +1,84 @@
 // A batch on a floor, whole: judged first, then committed. A refused call leaves every table as it was.
-ghost use Rattle.std.specs.Prelude.{List, ◌≡◌, ℕ, ◌≤◌, ltb, length};
+ghost use Rattle.std.specs.Prelude.{List, ◌≡◌, ℕ, ◌≤◌, ltb, length, take};
 ghost use Rattle.model.specs.Limits.{max_cells};
+ghost use Rattle.batches.specs.Lists.{Same};
 ghost use Rattle.limits.specs.Batches.{entries};
-ghost use Rattle.grid.specs.Change.{Applying, Changing, Done, lent_of, refuse_change, refused_with, short_of};
+ghost use Rattle.limits.specs.Refusals.{code};
+ghost use Rattle.grid.specs.Change.{Applying, Changing, Done, lists_of, refuse_change, short_for};
 
 use batches::batch::{commit, confirm, count_after};
+use batches::lists::{Changes, Outputs};
 use corner::changes::corner_changes;
-use limits::due::{due, first_due};
+use limits::due::Due;
 use limits::floor::Floor;
 use limits::judge::{bad_size, batch_due};
+use limits::refusal::Refusal;
 use sizes::{BATCH, CELLS, CORNERS};
 
-// 0 with how many changes were confirmed, how many corners changed, and the floor afterwards; or the refusal's
-// number, and all else zero.
+// How many changes were confirmed, how many corners changed, and the floor afterwards.
 #[derive(Clone, Copy)]
 pub struct Changed {
-    pub refusal: u8,
     pub confirmed: usize,
     pub corners: usize,
     pub floor: Floor,
 }
 
-fn refused(number: u8) -> Changed
-    ensures { result ≡ refused_with number }
-{
-    Changed {
-        refusal: number,
-        confirmed: 0,
-        corners: 0,
-        floor: Floor {
-            size: 0.0,
-            cells: 0,
-        },
-    }
-}
-
 // 9: whether a lent table is short of its need.
-fn is_short(cells: usize, confirmed: usize, full: usize, corners: usize, altered: usize) -> bool
-    ensures { result ≡ short_of cells confirmed full corners altered }
+#[tactic(auto, unfolding(crate::specs::Change::short_of))]
+fn is_short(cells: &[u64], outputs: &Outputs) -> bool
+    ensures { result ≡ short_for (lists_of cells.now outputs.now) }
 {
-    if cells < CELLS {
-        return true;
-    }
-    if confirmed < BATCH {
-        return true;
-    }
-    if full < BATCH {
-        return true;
-    }
-    if corners < CORNERS {
-        return true;
-    }
-    altered < CORNERS
+    limits::lent::is_short(&[
+        (cells.len(), CELLS),
+        (outputs.confirmed.len(), BATCH),
+        (outputs.full.len(), BATCH),
+        (outputs.corners.len(), CORNERS),
+        (outputs.altered.len(), CORNERS),
+    ])
 }
 
 // The refusals that the input alone decides: 9; 1; 3, 4 and 5; 6, of the floor handed in.
-fn judge(short: bool, size: f64, cells: usize, batch: &[i64]) -> u8
-    ensures { result ≡ refuse_change short size batch.now (ltb max_cells cells) }
+fn judge(short: bool, floor: Floor, batch: &[i64]) -> Result<(), Refusal>
+    ensures { code result ≡ refuse_change short floor.size batch.now (ltb max_cells floor.cells) }
 {
-    let read = batch_due(due(0, 6, CELLS < cells), batch);
-    first_due(due(due(read, 1, bad_size(size)), 9, short))
+    let crowded = Due::none().and(Refusal::ManyCells, CELLS < floor.cells);
+    batch_due(crowded, batch)
+        .and(Refusal::CellSize, bad_size(floor.size))
+        .and(Refusal::ShortTable, short)
+        .first()
+}
+
+// The first n of the confirmed changes.
+fn first_changes<'a>(outputs: &'a Outputs, n: usize) -> Changes<'a>
+    requires { (n ≤ length outputs.now.confirmed.now) × (n ≤ length outputs.now.full.now) }
+    ensures cells { result.cells.now ≡ take n outputs.now.confirmed.now }
+    ensures full { result.full.now ≡ take n outputs.now.full.now }
+{
+    Changes {
+        cells: &outputs.confirmed[..n],
+        full: &outputs.full[..n],
+    }
 }
 
 // The batch, once nothing refuses it.
-fn apply(
-    floor: Floor,
-    cells: &mut [u64],
-    batch: &[i64],
-    confirmed: &mut [u64],
-    full: &mut [u8],
-    corners: &mut [u64],
-    altered: &mut [u8],
-) -> Changed
+fn apply(floor: Floor, cells: &mut [u64], batch: &[i64], outputs: &mut Outputs) -> Changed
     requires { (floor.cells ≤ max_cells) × (max_cells ≤ length cells.old)
-        × (length (entries batch.now) ≤ length confirmed.old) × (length (entries batch.now) ≤ length full.old) }
-    ensures { (result.refusal ≡ 0) × ((C : List ℕ)
-        → Applying cells.old floor.cells C (entries batch.now) (length corners.old) (length altered.old)
-        → Done floor C (entries batch.now)
-        (lent_of cells.old confirmed.old full.old corners.old altered.old)
-        (lent_of cells.new confirmed.new full.new corners.new altered.new) result) }
+        × (length (entries batch.now) ≤ length outputs.old.confirmed.now)
+        × (length (entries batch.now) ≤ length outputs.old.full.now) }
+    ensures same { Same outputs.old outputs.new }
+    ensures done { (C : List ℕ)
+        → Applying cells.old floor.cells C (entries batch.now) (length outputs.old.corners.now) (length outputs.old.altered.now)
+        → Done floor C (entries batch.now) (lists_of cells.old outputs.old) (lists_of cells.new outputs.new) result }
 {
     let n = floor.cells;
-    let changes = confirm(&cells[..n], batch, confirmed, full);
-    let changed = corner_changes(&cells[..n], &confirmed[..changes], corners, altered);
-    let after = commit(
-        &mut cells[..CELLS],
-        n,
-        &confirmed[..changes],
-        &full[..changes],
-    );
+    let confirmed = confirm(&cells[..n], batch, outputs.confirmed, outputs.full);
+    // The check has a rule for this part of an output beside two other outputs only where it is lent to be changed.
+    let list = &mut outputs.confirmed[..confirmed];
+    let corners = corner_changes(&cells[..n], list, outputs.corners, outputs.altered);
+    let after = commit(&mut cells[..CELLS], n, first_changes(outputs, confirmed));
     Changed {
-        refusal: 0,
-        confirmed: changes,
-        corners: changed,
+        confirmed,
+        corners,
         floor: Floor {
             size: floor.size,
             cells: after,
@@ -100,35 +86,21 @@ fn apply(
     }
 }
 
-// Changes the floor's cells as the batch says. `cells` holds the floor's cells; `confirmed` and `full` get the confirmed
-// changes, `corners` and `altered` the corner changes with their statuses.
+// Changes the floor's cells as the batch says. `cells` holds the floor's cells; the outputs get the confirmed changes, and
+// the corner changes with their statuses.
 pub fn change_cells(
     floor: Floor,
     cells: &mut [u64],
     batch: &[i64],
-    confirmed: &mut [u64],
-    full: &mut [u8],
-    corners: &mut [u64],
-    altered: &mut [u8],
-) -> Changed
-    ensures { Changing floor batch.now
-        (lent_of cells.old confirmed.old full.old corners.old altered.old)
-        (lent_of cells.new confirmed.new full.new corners.new altered.new) result }
+    outputs: &mut Outputs,
+) -> Result<Changed, Refusal>
+    ensures same { Same outputs.old outputs.new }
+    ensures changing { Changing floor batch.now (lists_of cells.old outputs.old) (lists_of cells.new outputs.new) result }
 {
     let n = floor.cells;
-    let short = is_short(
-        cells.len(),
-        confirmed.len(),
-        full.len(),
-        corners.len(),
-        altered.len(),
-    );
-    let number = judge(short, floor.size, n, batch);
-    if number != 0 {
-        return refused(number);
-    }
+    judge(is_short(cells, outputs), floor, batch)?;
     if CELLS < count_after(&cells[..n], batch) {
-        return refused(6);
+        return Err(Refusal::ManyCells);
     }
-    apply(floor, cells, batch, confirmed, full, corners, altered)
+    Ok(apply(floor, cells, batch, outputs))
 }

@@ -8,7 +8,10 @@ use lib.Dec.{ltb}
 use lib.IntN.{ℤ}
 use lib.ListN.{length}
 use borrow.Author.Tests.{ltb-false, ltb-true}
+use Rattle.std.specs.Prelude.{Result}
+use Rattle.limits.specs.Refusals.{code}
 use Rattle.limits.specs.declared.floor.Floor.{Floor}
+use Rattle.limits.specs.declared.refusal.Refusal.{Refusal}
 use Rattle.grid.proofs.Determinate.{change_one}
 use Rattle.grid.specs.Change.{Lent}
 use Rattle.grid.specs.Change as grid
@@ -27,8 +30,7 @@ module _ (floor : Floor) (b : List ℤ) (t t₁ t₂ : Lent) (l l₁ l₂ : List
       let p = x.call h in
       let q = y.call h in
       let e = change_one floor b t t₁ t₂ p.0 q.0 p.1.changing q.1.changing d in
-      let n : n₁ ≡ n₂ = p.1.number ∙ ap (λ (r : Changed). r.refusal) e.0 ∙ sym q.1.number in
-      (n, e.1, p.1.counts ∙ ap (λ (k : ℕ). counts_of k p.0 l) n ∙ ap (λ (r : Changed). counts_of n₂ r l) e.0 ∙ sym q.1.counts)
+      (p.1.number ∙ ap (λ (r : Result Changed Refusal). code r) e.0 ∙ sym q.1.number, e.1, p.1.counts ∙ ap (λ (r : Result Changed Refusal). counts_of r l) e.0 ∙ sym q.1.counts)
 
   pub called_one : Decided floor b t l → (n₁ ≡ n₂) × (t₁ ≡ t₂) × (l₁ ≡ l₂)
   called_one (inl h) = short_one h

@@ -6,6 +6,8 @@ use mathlib.Core.Bool.{true}
 use mathlib.Core.List.{List}
 use mathlib.Core.Logic.{◌⊎◌, ⊎_elim}
 use mathlib.Core.Option.{Option, none, some}
+use Rattle.std.specs.Prelude as std
+use Rattle.std.specs.Prelude.{Some, None}
 use lib.ListN.{length, take}
 use lib.Ieee.{Float}
 use Rattle.model.specs.Good.{Inside}
@@ -17,7 +19,7 @@ use Rattle.table.specs.Tables.{All}
 use Rattle.limits.specs.Floor.{Holds}
 use Rattle.question.specs.Ask.{refuse_ask, refuse_floor}
 use Rattle.question.specs.Numbered.{bad_numbered}
-use Rattle.question.specs.declared.numbered.Numbered.{Numbered}
+use Rattle.question.specs.declared.search.Question as code
 use Rattle.question.specs.Question.{asked}
 use Rattle.question.specs.Walk.{found_as, keyed}
 use Rattle.question.specs.declared.search.Found.{Found}
@@ -47,11 +49,11 @@ module _ (t : List ℕ) (c : Float) (n : ℕ) (q : Question) where
       go (suc m) e = x.refused m e ∙ sym (y.refused m e)
 
 -- of a floor that holds its cells; and of every refused call, whatever the table holds
-pub floor_ask_one : (t : List ℕ) (c : Float) (n : ℕ) (q : Numbered) (r₁ r₂ : ℕ) → Tells t c n q r₁ → Tells t c n q r₂ → ((C : List ℕ) × Holds t n C) ⊎ (refuse_floor (length t) c n (bad_numbered q) ≡ 0 → ⊥) → r₁ ≡ r₂
-floor_ask_one t c n Numbered.Unknown r₁ r₂ x y s = x ∙ sym y
-floor_ask_one t c n (Numbered.Known q) r₁ r₂ x y s = told_one t c n (asked q) r₁ r₂ x y s
+pub floor_ask_one : (t : List ℕ) (c : Float) (n : ℕ) (q : std.Option code.Question) (r₁ r₂ : ℕ) → Tells t c n q r₁ → Tells t c n q r₂ → ((C : List ℕ) × Holds t n C) ⊎ (refuse_floor (length t) c n (bad_numbered q) ≡ 0 → ⊥) → r₁ ≡ r₂
+floor_ask_one t c n None r₁ r₂ x y s = x ∙ sym y
+floor_ask_one t c n (Some q) r₁ r₂ x y s = told_one t c n (asked q) r₁ r₂ x y s
 
 -- a short table is told by 9, whatever it holds
-pub floor_ask_short : (t : List ℕ) (c : Float) (n : ℕ) (q : Numbered) (r : ℕ) → length t < 1024 → Tells t c n q r → r ≡ 9
-floor_ask_short t c n Numbered.Unknown r h x = x ∙ sym (ask_short (length t) c n true h)
-floor_ask_short t c n (Numbered.Known q) r h x = x.refused 8 (sym (ask_short (length t) c n (bad_question (asked q)) h))
+pub floor_ask_short : (t : List ℕ) (c : Float) (n : ℕ) (q : std.Option code.Question) (r : ℕ) → length t < 1024 → Tells t c n q r → r ≡ 9
+floor_ask_short t c n None r h x = x ∙ sym (ask_short (length t) c n true h)
+floor_ask_short t c n (Some q) r h x = x.refused 8 (sym (ask_short (length t) c n (bad_question (asked q)) h))

@@ -11,195 +11,142 @@
 // Sizes, coordinates of points, widths and radii are bit patterns of f64, the other operands are two's complements.
 #![tactic(auto)]
 
-use grid::change::change_cells;
+use batches::lists::Outputs;
+use grid::change::{Changed, change_cells};
 use limits::cell::is_occupied;
 use limits::floor::Floor;
+use limits::refusal::Refusal;
 use question::ask::ask;
-use replay::change::{enter, write_changes};
-use replay::lines::answer;
+use replay::change::{Batch, write_changes};
+use replay::lines::{Reply, read_line};
 use replay::patterns::{float_at, integer_at};
+use replay::program::{Program, run};
 use replay::questions::{answer_place, cell_at, question_at};
 use sizes::{BATCH, CELLS, CORNERS};
 use std::io;
 use std::io::{Read, Write};
-use table::copy::clear;
 
-// The floor, the numbers of the batch so far, and whether there was a line.
+// What is kept from line to line: the floor with its table, and the batch so far.
 #[derive(Drop)]
-struct State {
+struct Floors {
     floor: Floor,
-    used: usize,
-    more: bool,
+    cells: [u64; CELLS],
+    batch: Batch,
 }
 
-fn find<W: Write>(
-    output: &mut W,
-    letter: u8,
-    line: &[u8],
-    floor: Floor,
-    cells: &[u64],
+// The refusal, or 0 and what the batch did.
+fn answer_batch<W: Write>(
+    reply: &mut Reply<'_, W>,
+    answer: Result<Changed, Refusal>,
 ) -> io::Result<()> {
-    let a = ask(floor, cells, question_at(letter, line));
-    answer_place(output, line, a)
-}
-
-fn look<W: Write>(output: &mut W, line: &[u8], floor: Floor, cells: &[u64]) -> io::Result<()> {
-    let n = floor.cells;
-    if n <= cells.len() {
-        let full = is_occupied(&cells[..n], cell_at(line));
-        return answer(output, line, &[0, full as u64, 0, 0]);
-    }
-    Ok(())
-}
-
-// Returns the floor afterwards.
-fn change<W: Write>(
-    output: &mut W,
-    line: &[u8],
-    floor: Floor,
-    cells: &mut [u64],
-    batch: &[i64],
-) -> io::Result<Floor> {
-    let mut confirmed = [0u64; BATCH];
-    let mut full = [0u8; BATCH];
-    let mut corners = [0u64; CORNERS];
-    let mut statuses = [0u8; CORNERS];
-    let r = change_cells(
-        floor,
-        cells,
-        batch,
-        &mut confirmed,
-        &mut full,
-        &mut corners,
-        &mut statuses,
-    );
-    answer(
-        output,
-        line,
-        &[
-            r.refusal as u64,
+    match answer {
+        Ok(r) => reply.answer(&[
+            0,
             r.confirmed as u64,
             r.corners as u64,
             r.floor.cells as u64,
-        ],
-    )?;
-    write_changes(output, b"= ", &confirmed, &full, r.confirmed)?;
-    write_changes(output, b"^ ", &corners, &statuses, r.corners)?;
-    Ok(if r.refusal == 0 { r.floor } else { floor })
+        ]),
+        Err(refusal) => reply.answer(&[refusal.number() as u64, 0, 0, 0]),
+    }
 }
 
-// A new floor, and an empty batch.
-fn open<W: Write>(output: &mut W, line: &[u8], cells: &mut [u64]) -> io::Result<State> {
-    clear(cells);
-    answer(output, line, &[0, 0, 0, 0])?;
-    Ok(State {
-        floor: Floor {
-            size: float_at(line, 2),
+impl Floors {
+    fn find<W: Write>(&self, reply: &mut Reply<'_, W>, letter: u8) -> io::Result<()> {
+        let answer = ask(self.floor, &self.cells, question_at(letter, reply.line));
+        answer_place(reply, answer)
+    }
+
+    fn look<W: Write>(&self, reply: &mut Reply<'_, W>) -> io::Result<()> {
+        let Some(cells) = self.cells.get(..self.floor.cells) else {
+            return Ok(());
+        };
+        let full = is_occupied(cells, cell_at(reply.line));
+        reply.answer(&[0, full as u64, 0, 0])
+    }
+
+    // A new floor, and an empty batch.
+    fn open<W: Write>(&mut self, reply: &mut Reply<'_, W>) -> io::Result<()> {
+        self.floor = Floor {
+            size: float_at(reply.line, 2),
             cells: 0,
-        },
-        used: 0,
-        more: true,
-    })
-}
-
-// One more entry of the batch.
-fn add<W: Write>(
-    output: &mut W,
-    line: &[u8],
-    floor: Floor,
-    batch: &mut [i64],
-    used: usize,
-) -> io::Result<State> {
-    answer(output, line, &[0, 0, 0, 0])?;
-    let x = integer_at(line, 2);
-    let y = integer_at(line, 19);
-    Ok(State {
-        floor,
-        used: enter(batch, used, x, y, integer_at(line, 36)),
-        more: true,
-    })
-}
-
-// The batch so far, given to the floor.
-fn commit<W: Write>(
-    output: &mut W,
-    line: &[u8],
-    floor: Floor,
-    cells: &mut [u64],
-    batch: &[i64],
-    used: usize,
-) -> io::Result<State> {
-    let mut after = floor;
-    if used <= batch.len() {
-        after = change(output, line, floor, cells, &batch[..used])?;
+        };
+        self.cells = [0; CELLS];
+        self.batch = Batch::new();
+        reply.answer(&[0; 4])
     }
-    Ok(State {
-        floor: after,
-        used: 0,
-        more: true,
-    })
-}
 
-// What the line asks for.
-fn obey<W: Write>(
-    output: &mut W,
-    letter: u8,
-    line: &[u8],
-    state: State,
-    cells: &mut [u64],
-    batch: &mut [i64],
-) -> io::Result<State> {
-    let floor = state.floor;
-    match letter {
-        b'o' => open(output, line, cells),
-        b'e' => add(output, line, floor, batch, state.used),
-        b'b' => commit(output, line, floor, cells, batch, state.used),
-        b'i' => {
-            look(output, line, floor, cells)?;
-            Ok(state)
-        }
-        _ => {
-            find(output, letter, line, floor, cells)?;
-            Ok(state)
+    // One more entry of the batch.
+    fn add<W: Write>(&mut self, reply: &mut Reply<'_, W>) -> io::Result<()> {
+        let line = reply.line;
+        self.batch.enter(
+            integer_at(line, 2),
+            integer_at(line, 19),
+            integer_at(line, 36),
+        );
+        reply.answer(&[0; 4])
+    }
+
+    // The batch so far, given to the floor.
+    fn commit<W: Write>(&mut self, reply: &mut Reply<'_, W>) -> io::Result<()> {
+        let mut outputs = Outputs {
+            confirmed: &mut [0; BATCH],
+            full: &mut [0; BATCH],
+            corners: &mut [0; CORNERS],
+            altered: &mut [0; CORNERS],
+        };
+        let floor = self.floor;
+        let batch = self.batch;
+        let answer = change_cells(floor, &mut self.cells, batch.entries(), &mut outputs);
+        self.batch = Batch::new();
+        answer_batch(reply, answer)?;
+        let Ok(r) = answer else {
+            return Ok(());
+        };
+        self.floor = r.floor;
+        let Outputs {
+            confirmed,
+            full,
+            corners,
+            altered,
+        } = outputs;
+        write_changes(reply.output, b"= ", confirmed, full, r.confirmed)?;
+        write_changes(reply.output, b"^ ", corners, altered, r.corners)
+    }
+
+    // What the line asks for.
+    fn obey<W: Write>(&mut self, reply: &mut Reply<'_, W>, letter: u8) -> io::Result<()> {
+        match letter {
+            b'o' => self.open(reply),
+            b'e' => self.add(reply),
+            b'b' => self.commit(reply),
+            b'i' => self.look(reply),
+            _ => self.find(reply, letter),
         }
     }
 }
 
-// One line, where there is one.
-fn replay<R: Read, W: Write>(
-    input: &mut R,
-    output: &mut W,
-    state: State,
-    cells: &mut [u64; CELLS],
-    batch: &mut [i64; 900],
-) -> io::Result<State> {
-    let mut line = [0u8; 104];
-    if !replay::lines::read_line(input, &mut line) {
-        let mut last = state;
-        last.more = false;
-        return Ok(last);
+impl Program for Floors {
+    fn replay<R: Read, W: Write>(&mut self, input: &mut R, output: &mut W) -> io::Result<bool> {
+        let Some(line) = read_line::<104, R>(input) else {
+            return Ok(false);
+        };
+        let mut reply = Reply {
+            line: &line,
+            output,
+        };
+        self.obey(&mut reply, line[0])?;
+        Ok(true)
     }
-    obey(output, line[0], &line, state, cells, batch)
 }
 
-// A proved loop has to end, and nothing says that the input does: the turns are counted down.
 fn main(rt: HostRuntime) -> io::Result<()> {
-    let mut input = rt.stdin();
-    let mut output = rt.stdout();
-    let mut cells = [0u64; CELLS];
-    let mut batch = [0i64; 900];
-    let mut state = State {
+    let mut floors = Floors {
         floor: Floor {
             size: 0.0,
             cells: 0,
         },
-        used: 0,
-        more: true,
+        cells: [0; CELLS],
+        batch: Batch::new(),
     };
-    let mut turns = u64::MAX;
-    while turns > 0 && state.more {
-        state = replay(&mut input, &mut output, state, &mut cells, &mut batch)?;
-        turns -= 1;
-    }
-    Ok(())
+    run(&mut floors, &mut rt.stdin(), &mut rt.stdout())
 }

@@ -1,4 +1,5 @@
 -- The laws of crate `held`.
+pub mod Determinate
 pub mod LayerLaws
 pub mod NamedLaws
 pub mod PadLaws

@@ -2,4 +2,6 @@
 pub mod Codes
 pub mod Holds
 pub mod Layers
+pub mod Lent
 pub mod Pairs
+pub mod Told

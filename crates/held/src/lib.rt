@@ -2,3 +2,4 @@
 #![tactic(auto)]
 
 pub mod map;
+pub mod tables;

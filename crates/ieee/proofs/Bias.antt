@@ -1,34 +1,9 @@
--- `bias` computes `biased`, and the order of the tables' numbers is that of the columns. Assumes nothing.
-use Rattle.std.proofs.Common.{◌≡◌, ℕ, suc, ◌+◌, ◌-◌, ◌^◌, ◌<◌, ◌≤◌, min, Bool, true, false, cond, not, ltb, leb, ℤ, pos, negsuc, ◌+ℤ◌, sym, refl, ap, ◌∙◌, arith, le→leb, leb→le, ltb-false, ltb-true, le-ltb, lt-ltb, le-leb}
-use mathlib.Core.Bool.{false≢true}
+-- The tables' numbers of columns: their range, and their order, which is that of the columns. Assumes nothing.
+use Rattle.std.proofs.Common.{◌≡◌, ℕ, suc, ◌+◌, ◌-◌, ◌^◌, ◌<◌, ◌≤◌, min, Bool, true, false, cond, not, ltb, leb, ℤ, pos, negsuc, sym, refl, ap, ◌∙◌, arith, le→leb, leb→le, ltb-false, ltb-true, le-ltb, lt-ltb, le-leb}
 use lib.Signed.{lt_z, le_z, mag}
 use borrow.Author.Tests.{lt-leb}
 use Rattle.ieee.specs.Whole.{biased, unbias}
 use Rattle.ieee.proofs.Tools.{same_test, ltb_not}
-
-pub bias_low : (z : ℤ) → lt_z z (negsuc 2147483647) ≡ true → 0 ≡ biased z
-bias_low (pos n) h = absurd (false≢true h)
-bias_low (negsuc n) h = go n (ltb-true 2147483647 n h)
-  where
-    go : (n : ℕ) → 2147483647 < n → 0 ≡ 2 ^ 31 - suc n
-    go n h = omega arith
-
-pub bias_high : (z : ℤ) → lt_z (pos 2147483647) z ≡ true → 4294967295 ≡ biased z
-bias_high (pos n) h = go n (ltb-true 2147483647 n h)
-  where
-    go : (n : ℕ) → 2147483647 < n → 4294967295 ≡ min (n + 2 ^ 31) (2 ^ 32 - 1)
-    go n h = omega arith
-bias_high (negsuc n) h = absurd (false≢true h)
-
-pub bias_mid : (z : ℤ) → lt_z z (negsuc 2147483647) ≡ false → lt_z (pos 2147483647) z ≡ false → z +ℤ pos 2147483648 ≡ pos (biased z)
-bias_mid (pos n) h k = ap pos (go n (ltb-false 2147483647 n k))
-  where
-    go : (n : ℕ) → n ≤ 2147483647 → n + 2147483648 ≡ min (n + 2 ^ 31) (2 ^ 32 - 1)
-    go n h = omega arith
-bias_mid (negsuc n) h k = ap (λ (b : Bool). cond b (negsuc (suc n - suc 2147483648)) (pos (2147483648 - suc n))) (le-ltb 2147483648 (suc n) (go n (ltb-false 2147483647 n h)))
-  where
-    go : (n : ℕ) → n ≤ 2147483647 → suc n ≤ 2147483648
-    go n h = omega arith
 
 pub biased_lt : (z : ℤ) → biased z < 2 ^ 32
 biased_lt (pos n) = go n

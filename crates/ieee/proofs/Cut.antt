@@ -1,12 +1,10 @@
--- A float cut to an i64: the laws of `cut_to_i64`, and what floor and ceiling need of the cut. Assumes nothing.
-use Rattle.std.proofs.Common.{◌≡◌, ℕ, zero, suc, ◌+◌, ◌-◌, ◌*◌, ◌/◌, ◌^◌, ◌<◌, ◌≤◌, min, Bool, true, false, not, ◌||◌, ltb, ℤ, pos, negsuc, neg_ℤ, sym, refl, ap, ◌∙◌, true≢false, le-div_iff_mul-le, arith, w64, to_z, of_z, ltb-false, lt-ltb}
-use lib.Ieee.{Float, nan, inf, fin, up, down, lt, le, eq, ne, to_signed}
+-- A float cut to an i64: what floor and ceiling need of the cut. Assumes nothing.
+use Rattle.std.proofs.Common.{◌≡◌, ℕ, zero, suc, ◌-◌, ◌*◌, ◌/◌, ◌^◌, ◌<◌, ◌≤◌, min, Bool, true, false, not, ltb, ℤ, pos, neg_ℤ, sym, refl, ap, ◌∙◌, arith, w64, to_z, of_z}
+use lib.Ieee.{Float, fin, up, down, lt, to_signed}
 use lib.Ieee.Casts.{to_signed_in}
-use lib.Ieee.Compare.{differs_from_itself, nan_differs}
-use lib.Ieee.Fits.{down_pos}
 use mir.ValLaws.{to_z-of_z}
 use Rattle.ieee.specs.Whole.{sat, sat_inf}
-use Rattle.ieee.proofs.Tools.{T_true, not_both, lt_whole, whole_lt}
+use Rattle.ieee.proofs.Tools.{lt_whole, whole_lt}
 
 -- ---- ±q, and ±q brought to the range
 abbrev pub signed : Bool → ℕ → ℤ
@@ -48,37 +46,3 @@ past false x y = lt y x
 pub edge_test : (s : Bool) (m : ℕ) (e : ℤ) → past (not s) (fin s m e) (edge s) ≡ ltb (m * up e) (2 ^ 63 * down e)
 edge_test true m e = whole_lt true m e (edge true) true (2 ^ 63) (refl, refl)
 edge_test false m e = lt_whole false m e (edge false) false (2 ^ 63) (refl, refl)
-
-edge_far : (s : Bool) (m : ℕ) (e : ℤ) → past (not s) (fin s m e) (edge s) ≡ false → sat_inf s ≡ to_signed 63 (fin s m e)
-edge_far s m e h =
-    sym (cut_sat s m e ∙ sat_far s (m * up e / down e) ((le-div_iff_mul-le (down_pos e)).1 (ltb-false (m * up e) (2 ^ 63 * down e) (sym (edge_test s m e) ∙ h))))
-
--- what does not lie inside an end is cut to that end
-cut_edge : (s : Bool) (x : Float) → (x ≡ nan → ⊥) → past (not s) x (edge s) ≡ false → sat_inf s ≡ to_signed 63 x
-unfolding to_signed
-cut_edge s nan n h = absurd (n refl)
-cut_edge true (inf true) n h = refl
-cut_edge true (inf false) n h = absurd (true≢false (unfold lt in h))
-cut_edge false (inf true) n h = absurd (true≢false (unfold lt in h))
-cut_edge false (inf false) n h = refl
-cut_edge true (fin true m e) n h = edge_far true m e h
-cut_edge true (fin false m e) n h = not_both (whole_lt false m e (edge true) true (2 ^ 63) (refl, refl) ∙ lt-ltb 0 (2 ^ 63 * down e + m * up e) (omega (arith, down_pos e))) h
-cut_edge false (fin true m e) n h = not_both (lt_whole true m e (edge false) false (2 ^ 63) (refl, refl) ∙ lt-ltb 0 (m * up e + 2 ^ 63 * down e) (omega (arith, down_pos e))) h
-cut_edge false (fin false m e) n h = edge_far false m e h
-
--- ---- what `cut_to_i64` answers where it does not truncate
-pub cut_high : (x : Float) → le (edge true) x ≡ true → lt x (edge false) ≡ false → pos (2 ^ 63 - 1) ≡ to_signed 63 x
-unfolding le
-cut_high x l h = cut_edge false x (λ k. absurd (true≢false (sym l ∙ ap (le (edge true)) k))) h
-
-or_left : (a b : Bool) → (a || b) ≡ false → a ≡ false
-or_left true b h = h
-or_left false b h = refl
-
-pub cut_low : (x : Float) → le (edge true) x ≡ false → ne x x ≡ false → negsuc (2 ^ 63 - 1) ≡ to_signed 63 x
-unfolding le
-cut_low x l h = cut_edge true x (λ k. not_both nan_differs (sym (ap (λ (y : Float). ne y y) k) ∙ h)) (or_left (lt (edge true) x) (eq (edge true) x) l)
-
-pub cut_nan : (x : Float) → ne x x ≡ true → pos 0 ≡ to_signed 63 x
-unfolding to_signed
-cut_nan x h = sym (ap (to_signed 63) (differs_from_itself x (T_true h)))

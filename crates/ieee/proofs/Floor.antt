@@ -1,7 +1,5 @@
 -- What `floor_to_i64` and `ceil_to_i64` make of a float's cut is what `floor_z` and `ceil_z` say. Assumes nothing.
-use Rattle.std.proofs.Common.{◌≡◌, ℕ, zero, suc, ◌+◌, ◌-◌, ◌*◌, ◌/◌, ◌%◌, ◌^◌, ◌<◌, ◌≤◌, Bool, true, false, not, ◌&&◌, T, ltb, ℤ, pos, negsuc, ◌+ℤ◌, ◌-ℤ◌, sym, refl, ap, ◌∙◌, ⊎_elim, le_trans, le_of_eq, add-zero, le_of_lt, zero-lt-suc, mul_assoc, mul-lt-mul_of_pos_right, div-add-mod', le-div_iff_mul-le, zero-mul, mul-one, div-le_self, div-mul-le_self, div-one, add-one, arith, pow_pos, pow-add, w64, SFits, to_z, of_z, le-ltb, lt-ltb, ne_eqb}
-use mathlib.Core.Bool.{and-false}
-use lib.Signed.{mag, lt_z}
+use Rattle.std.proofs.Common.{◌≡◌, ℕ, zero, suc, ◌+◌, ◌*◌, ◌/◌, ◌%◌, ◌^◌, ◌<◌, ◌≤◌, Bool, true, false, cond, not, T, ltb, ℤ, pos, negsuc, ◌+ℤ◌, ◌-ℤ◌, sym, refl, ap, ◌∙◌, ⊎_elim, le_trans, le_of_eq, add-zero, le_of_lt, zero-lt-suc, mul_assoc, mul-lt-mul_of_pos_right, div-add-mod', le-div_iff_mul-le, zero-mul, mul-one, div-le_self, div-mul-le_self, div-one, add-one, arith, pow_pos, pow-add, w64, SFits, to_z, of_z, le-ltb, lt-ltb, ne_eqb}
 use lib.Ieee.{Float, nan, inf, fin, binary64, up, down, round, lt, fits, of_int, to_signed}
 use lib.Ieee.Fits.{down_pos}
 use lib.Ieee.Exact.{HasValue, round_exact}
@@ -40,17 +38,12 @@ rest_small m (negsuc k) h q d r = let i : q ≤ m * 1 = le_trans (le_of_eq (sym 
 
 -- ---- floor and ceiling at once, by the side to which they round: true is down, false is up
 abbrev pub toward : Bool → Float → ℤ
-toward true x = floor_z x
-toward false x = ceil_z x
+toward d x = cond d (floor_z x) (ceil_z x)
 
--- the neighbour of z on that side, and whether an i64 has it
+-- the neighbour of z on that side
 abbrev pub next : Bool → ℤ → ℤ
 next true z = z -ℤ pos 1
 next false z = z +ℤ pos 1
-
-abbrev pub free : Bool → ℤ → Bool
-free true z = lt_z (negsuc (2 ^ 63 - 1)) z
-free false z = lt_z z (pos (2 ^ 63 - 1))
 
 -- the side s leads away from zero for a value of sign s
 next_signed : (s : Bool) (q : ℕ) → next s (signed s q) ≡ signed s (suc q)
@@ -58,20 +51,10 @@ next_signed true zero = refl
 next_signed true (suc q) = ap (λ (n : ℕ). negsuc (suc n)) (add-zero q)
 next_signed false q = ap pos (add-one q)
 
-free_signed : (s : Bool) (q : ℕ) → q < 2 ^ 53 → free s (signed s q) ≡ true
-free_signed true zero h = refl
-free_signed true (suc q) h = lt-ltb q (2 ^ 63 - 1) (omega arith)
-free_signed false q h = lt-ltb q (2 ^ 63 - 1) (omega arith)
-
-mag_signed : (s : Bool) (q : ℕ) → q < 2 ^ 63 → mag (signed s q) < 2 ^ 63
-mag_signed true zero h = h
-mag_signed true (suc q) h = le_of_lt h
-mag_signed false q h = h
-
 -- an end of the range has no neighbour beyond it, and its float is `edge`
-edge_free : (s : Bool) → free s (sat_inf s) ≡ false
-edge_free true = refl
-edge_free false = refl
+edge_next : (s : Bool) → sat (next s (sat_inf s)) ≡ sat_inf s
+edge_next true = refl
+edge_next false = refl
 
 edge_float : (s : Bool) → of_int binary64 (sat_inf s) ≡ edge s
 unfolding of_int
@@ -90,13 +73,9 @@ past_signed true m e zero v =
       whole_lt true m e (round binary64 false 0 1) false 0 w ∙ sym (le-ltb (m * up e) (0 * down e) (omega arith)),
     )
 
--- ---- where x is past y and t has a neighbour on the side d, that neighbour is the answer z, and elsewhere t is
-abbrev Ended : Bool → Bool → ℤ → ℤ → Type 0
-Ended true d t z = (mag (next d t) < 2 ^ 63) × (next d t ≡ z)
-Ended false d t z = t ≡ z
-
+-- ---- where x is past y the neighbour of t is the answer z, or t where an i64 has no such neighbour; elsewhere t is
 abbrev Ends : Bool → Float → ℤ → Float → ℤ → Type 0
-Ends d x t y z = Ended (past d x y && free d t) d t z
+Ends d x t y z = cond (past d x y) (sat (next d t)) t ≡ z
 
 module _ (s : Bool) (m : ℕ) (e : ℤ) (f : T (fits binary64 (fin s m e))) where
   -- the value, its size a / c, the whole part of that, and the cut with its float
@@ -134,19 +113,21 @@ module _ (s : Bool) (m : ℕ) (e : ℤ) (f : T (fits binary64 (fin s m e))) wher
 
   -- away from zero the cut is the answer where x has no fraction, and its neighbour is where x has one
   ends_whole : a ≤ q * c → Ends s x t y (sat (signed s (ceil_div a c)))
-  ends_whole r = rw (still, no_rest a c q (down_pos e) refl r) (cut_sat s m e)
+  ends_whole r = rw (no_rest a c q (down_pos e) refl r) (⊎_elim (λ h. rw ((within h).0, le-ltb (q * c) a r) (cut_sat s m e)) far (lt_or_ge q (2 ^ 63)))
     where
-      still : (past s x y && free s t) ≡ false
-      still =
-          ⊎_elim (λ h. rw ((within h).0, le-ltb (q * c) a r)) (λ h. rw (cut_sat s m e, sat_far s q h, edge_free s, and-false)) (lt_or_ge q (2 ^ 63))
+      same : (b : Bool) (z : ℤ) → cond b z z ≡ z
+      same true z = refl
+      same false z = refl
+
+      far : 2 ^ 63 ≤ q → Ends s x t y (sat (signed s q))
+      far h = rw (cut_sat s m e, sat_far s q h, edge_next s) (same (past s x (of_int binary64 (sat_inf s))) (sat_inf s))
 
   ends_rest : q * c < a → Ends s x t y (sat (signed s (ceil_div a c)))
   ends_rest r =
       let l : q < 2 ^ 53 = rest_small m e (held s m e f).0 q refl r in
       let h : q < 2 ^ 63 = omega arith in
-      let k : suc q < 2 ^ 63 = omega arith in
       let i : t ≡ signed s q = cut_sat s m e ∙ sat_within s q h in
-      rw ((within h).0, lt-ltb (q * c) a r, has_rest a c q (down_pos e) refl r, sat_within s (suc q) k, i, free_signed s q l, next_signed s q) (mag_signed s (suc q) k, refl)
+      rw ((within h).0, lt-ltb (q * c) a r, has_rest a c q (down_pos e) refl r, i, next_signed s q) refl
 
   ends_out : Ends s x t y (sat (signed s (ceil_div a c)))
   ends_out = ⊎_elim ends_rest ends_whole (lt_or_ge (q * c) a)
@@ -164,6 +145,11 @@ ends true (fin false m e) f = ends_in_lem false m e f
 ends false (fin true m e) f = ends_in_lem true m e f
 ends false (fin false m e) f = ends_out false m e f
 
+-- what is brought to the range fits an i64
+sat_fits : (z : ℤ) → SFits w64 (sat z)
+sat_fits (pos n) = record { sfits = omega arith }
+sat_fits (negsuc n) = record { sfits = omega arith }
+
 -- ---- the code holds x, its cut t and the float y of t
 pub record IsCut (x : Float) (t : ℤ) (y : Float) : Type 0 where
   pub fit : T (fits binary64 x)
@@ -174,13 +160,8 @@ module _ (d : Bool) {x : Float} {t : ℤ} {y : Float} (k : IsCut x t y) where
   ended : Ends d x t y (toward d x)
   ended = rw (k.float, k.cut) (ends d x k.fit)
 
-  pub not_past_same : past d x y ≡ false → t ≡ toward d x
-  not_past_same h = rw h at ended
+  pub cut_stays : past d x y ≡ false → t ≡ toward d x
+  cut_stays h = rw h at ended
 
-  pub not_free_same : free d t ≡ false → t ≡ toward d x
-  not_free_same h = rw (h, and-false) at ended
-
-  pub past_free_step : past d x y ≡ true → free d t ≡ true → SFits w64 (next d t) × (to_z w64 (of_z w64 (next d t)) ≡ toward d x)
-  past_free_step h g =
-      let r : Ended true d t (toward d x) = rw (h, g) at ended in
-      let i : SFits w64 (next d t) = record { sfits = r.0 } in (i, to_z-of_z w64 (next d t) i ∙ r.1)
+  pub cut_steps : past d x y ≡ true → {r : ℤ} → r ≡ sat (next d t) → to_z w64 (of_z w64 r) ≡ toward d x
+  cut_steps h e = rw e (to_z-of_z w64 (sat (next d t)) (sat_fits (next d t)) ∙ rw h at ended)

@@ -1,9 +1,9 @@
 -- On which side of zero a finite value lies, by its sign and its size; and how zero is written. Assumes nothing.
-use Rattle.std.proofs.Common.{◌≡◌, ℕ, zero, suc, ◌+◌, ◌*◌, ◌^◌, ◌<◌, ◌≤◌, Bool, true, false, T, eqb, ℤ, pos, negsuc, sym, refl, ap, ◌∙◌, zero-lt-suc, mul-pos, one-mul, zero-mul, mul-one, arith, eqb→eq, ltb→lt, pow_pos, ltb-false}
+use Rattle.std.proofs.Common.{◌≡◌, ℕ, zero, suc, ◌+◌, ◌*◌, ◌^◌, ◌<◌, ◌≤◌, Bool, true, false, T, ℤ, pos, negsuc, sym, refl, ap, ◌∙◌, zero-lt-suc, mul-pos, one-mul, zero-mul, mul-one, arith, eqb→eq, ltb→lt, pow_pos, ltb-false}
 use native.Mathlib.Nat.{pow-succ'}
 use mathlib.Core.Bool.{false≢true}
-use lib.Ieee.{fin, binary64, up, down, lt, eq, fits}
-use lib.Ieee.Fits.{and_l, up_pos}
+use lib.Ieee.{fin, binary64, up, down, lt, fits}
+use lib.Ieee.Fits.{up_pos}
 use Rattle.ieee.specs.Constants.{nought}
 use Rattle.ieee.proofs.Tools.{T_true}
 
@@ -46,13 +46,6 @@ zero_not_below true e h = none (0 * up e * 1) (0 * down e) (ap (λ (x : ℕ). x 
   where
     none : (a b : ℕ) → a ≡ 0 → b ≡ 0 → 0 < a + b → ⊥
     none a b y z h = omega arith
-
-pub not_level : (s : Bool) (m : ℕ) (e : ℤ) → eq (fin s (suc m) e) nought ≡ true → ⊥
-unfolding eq
-not_level s m e h = some (suc m * up e * 1) (0 * down e) (size_pos m e) (eqb→eq (suc m * up e * 1) (0 * down e) (and_l (eqb (suc m * up e * 1) (0 * down e)) _ (T_true h))) (zero-mul (down e))
-  where
-    some : (a b : ℕ) → 0 < a → a ≡ b → b ≡ 0 → ⊥
-    some a b h e z = omega arith
 
 -- ---- a zero that fits has the exponent 0
 two_up : (p : ℕ) → 0 < p → 2 * p ≡ 1 → ⊥

@@ -181,27 +181,6 @@ search_ends b f h =
       reached = ap (le b) top_root ∙ le_like b (of_bits binary64 (2047 * 2 ^ 52)) k.0 (2047 * 2 ^ 52) k.1 (bits_like (2047 * 2 ^ 52) (le_refl (2047 * 2 ^ 52))) ∙ le-leb k.0 (2047 * 2 ^ 52) k.1.range;
     }
 
--- what a turn leaves, the lower half or the upper, and what is left at the end
-module _ (b : Float) (lo hi : ℕ) (c : Between b lo hi) where
-  pub search_down : (m : ℕ) → lo < m → m < hi → le b (root_f (of_bits binary64 m)) ≡ true → Between b lo m
-  search_down m l h e = record { order = l; range = le_trans (le_of_lt h) c.range; missed = c.missed; reached = e }
-
-  pub search_up : (m : ℕ) → m < hi → le b (root_f (of_bits binary64 m)) ≡ false → Between b m hi
-  search_up m h e = record { order = h; range = c.range; missed = e; reached = c.reached }
-
-  pub search_over : hi ≤ lo + 1 → Between b (hi - 1) hi
-  search_over h = let e : lo ≡ hi - 1 = omega arith in subst (λ (x : ℕ). Between b x hi) e c
-
--- the guess: no answer, the guess itself, and the pattern after it
-pub none_first : (b : Float) → 0 < 0 → Between b 0 0
-none_first b h = absurd (omega (arith, h))
-
-pub this_first : (b : Float) (n : ℕ) → n ≤ 2047 * 2 ^ 52 → le b (root_f (of_bits binary64 (n - 1))) ≡ false → le b (root_f (of_bits binary64 n)) ≡ true → 0 < n → Between b (n - 1) n
-this_first b n r lo hi h = record { order = omega arith; range = r; missed = lo; reached = hi }
-
-pub next_first : (b : Float) (n : ℕ) → n < 2047 * 2 ^ 52 → le b (root_f (of_bits binary64 n)) ≡ false → le b (root_f (of_bits binary64 (n + 1))) ≡ true → 0 < n + 1 → Between b (n + 1 - 1) (n + 1)
-next_first b n r lo hi h = let e : n ≡ n + 1 - 1 = omega arith in record { order = omega arith; range = omega arith; missed = subst (λ (x : ℕ). le b (root_f (of_bits binary64 x)) ≡ false) e lo; reached = hi }
-
 -- ---- what the tests of `root_threshold` tell: b is above zero, and so its bits are at most the infinity's
 pub above_zero : (b : Float) → ne b b ≡ false → le b nought ≡ false → lt nought b ≡ true
 unfolding is_nan

@@ -1,7 +1,5 @@
 -- Columns and rows as signed numbers, and as floats. Assumes nothing.
-use Rattle.std.proofs.Common.{◌≡◌, ℕ, ◌+◌, ◌^◌, ◌<◌, ◌≤◌, T, ℤ, pos, negsuc, ◌+ℤ◌, ◌-ℤ◌, ap, ◌∙◌, arith, le→leb, lt→ltb, w64, SFits, to_z}
-use lib.Signed.{mag}
-use lib.Ieee.{binary64, in_float}
+use Rattle.std.proofs.Common.{◌≡◌, ℕ, ◌+◌, ◌^◌, ◌<◌, ◌≤◌, ℤ, pos, ◌+ℤ◌, ◌-ℤ◌, ap, ◌∙◌, arith, w64, SFits, to_z}
 use mir.ValLaws.{to_z_pos}
 use Rattle.ieee.specs.Whole.{unbias}
 use Rattle.ieee.proofs.Integers.{add_parts, less_parts, same_int, unbias_parts, unbias_mag}
@@ -16,13 +14,6 @@ column_back n h =
 
 pub column_fits : (n : ℕ) → n ≤ 2 ^ 32 → SFits w64 (unbias n)
 column_fits n h = let m = unbias_mag n (2 ^ 31) (omega arith) (omega arith) in record { sfits = omega arith }
-
-pub column_exact : (n : ℕ) → n ≤ 2 ^ 32 → T (in_float binary64 (unbias n))
-column_exact n h = let m = unbias_mag n (2 ^ 31) (omega arith) (omega arith) in small (unbias n) m
-  where
-    small : (z : ℤ) → mag z ≤ 2 ^ 31 → T (in_float binary64 z)
-    small (pos k) h = unfold in_float in le→leb k (2 ^ 53) (omega arith)
-    small (negsuc k) h = unfold in_float in lt→ltb k (2 ^ 53) (omega arith)
 
 -- the next column
 pub column_next : (n i : ℕ) → unbias (n + i) ≡ unbias n +ℤ pos i

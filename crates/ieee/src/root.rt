@@ -15,8 +15,7 @@ fn root_bits(m: u64) -> u64
     let mut left: u64 = m * 1024;
     let mut rem: u64 = 0;
     let mut r: u64 = 0;
-    let mut t: u64 = 54;
-    while 0 < t {
+    for _ in 0..54u64 {
         rem = rem * 4 + left / 4611686018427387904;
         left = left % 4611686018427387904 * 4;
         r = r * 2;
@@ -24,7 +23,6 @@ fn root_bits(m: u64) -> u64
             rem = rem - (r * 2 + 1);
             r = r + 1;
         }
-        t = t - 1;
     }
     r
 }
@@ -39,6 +37,7 @@ fn root_slow(m: u64) -> u64
 
 // What m * 2^52 is above the square of c, worked out in 64 bits from c = a * 2^26 + b, as
 // ((m - a * a) * 2^25 - a * b) * 2^27 - b * b; 2^63 or more where c is no close neighbour of the root.
+// No `Option`: the last difference too may be 2^63 or more, so its caller would still have that case to test.
 fn excess(m: u64, c: u64) -> u64
     requires { c < 2 ^ 53 }
     ensures { result < 2 ^ 63 → c * c + result ≡ m * 2 ^ 52 }

@@ -1,6 +1,6 @@
 // The least value whose root is at least a given one, so that a loop can compare squares and take no
 // root.
-ghost use Rattle.std.specs.Prelude.{◌≡◌, ◌-◌, ◌*◌, ◌^◌, ◌<◌, ◌≤◌, true, false, from_bits};
+ghost use Rattle.std.specs.Prelude.{◌≡◌, ◌-◌, ◌*◌, ◌^◌, ◌<◌, ◌≤◌, true, false, from_bits, IfSome};
 ghost use Rattle.std.specs.Float.{binary64};
 ghost use Rattle.std.specs.Float.Ieee.{lt, le};
 ghost use Rattle.ieee.specs.Constants.{nought};
@@ -19,29 +19,23 @@ fn reaches(b: f64, n: u64) -> bool
     b <= root::root(f64::from_bits(n))
 }
 
-// The first pattern whose root is at least b, where that is the guess n or n + 1, and 0 elsewhere.
-fn from_guess(b: f64, n: u64) -> u64
-    ensures { 0 < result → Between b (result - 1) result }
+// The first pattern whose root is at least b, where that is the guess n or n + 1.
+fn from_guess(b: f64, n: u64) -> Option<u64>
+    ensures { IfSome result (λ k. Between b (k - 1) k) }
 {
     if 9218868437227405312 < n {
-        return 0;
+        return None;
     }
     if reaches(b, n) {
-        if n == 0 {
-            return 0;
+        if n == 0 || reaches(b, n - 1) {
+            return None;
         }
-        if reaches(b, n - 1) {
-            return 0;
-        }
-        return n;
+        return Some(n);
     }
-    if n == 9218868437227405312 {
-        return 0;
+    if n < 9218868437227405312 && reaches(b, n + 1) {
+        return Some(n + 1);
     }
-    if reaches(b, n + 1) {
-        return n + 1;
-    }
-    0
+    None
 }
 
 // The first pattern whose root is at least b, a value above zero: found by halving.
@@ -75,11 +69,10 @@ pub fn root_threshold(b: f64) -> f64
         return 0.0;
     }
     let q = b * f64::from_bits(f64::to_bits(b) - 1);
-    if q >= 0.0 {
-        let n = from_guess(b, f64::to_bits(q));
-        if 0 < n {
-            return f64::from_bits(n);
-        }
+    if q >= 0.0
+        && let Some(n) = from_guess(b, f64::to_bits(q))
+    {
+        return f64::from_bits(n);
     }
     f64::from_bits(bisect(b))
 }

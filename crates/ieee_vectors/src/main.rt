@@ -3,7 +3,9 @@
 // functions answer is in the file stdout beside src/.
 #![tactic(auto)]
 
+use replay::lines::{read_line, write_pattern};
 use replay::patterns::{float_at, pattern_of, signed};
+use replay::program::{Program, run};
 use std::io;
 use std::io::{Read, Write};
 
@@ -23,28 +25,23 @@ fn answer(function: u8, x: f64, y: f64) -> u64 {
     }
 }
 
-// One line, and whether there may be another.
-fn replay<R: Read, W: Write>(input: &mut R, output: &mut W) -> io::Result<bool> {
-    let mut line = [0u8; 36];
-    if !replay::lines::read_line(input, &mut line) {
-        return Ok(false);
+// Nothing is kept from line to line.
+#[derive(Drop)]
+struct Floats;
+
+impl Program for Floats {
+    fn replay<R: Read, W: Write>(&mut self, input: &mut R, output: &mut W) -> io::Result<bool> {
+        let Some(mut line) = read_line::<36, R>(input) else {
+            return Ok(false);
+        };
+        let given = answer(line[0], float_at(&line, 2), float_at(&line, 19));
+        line[35] = b' ';
+        output.write_all(&line)?;
+        write_pattern(output, given, b"\n")?;
+        Ok(true)
     }
-    let function = line[0];
-    let x = float_at(&line, 2);
-    let y = float_at(&line, 19);
-    line[35] = b' ';
-    output.write_all(&line)?;
-    replay::lines::write_pattern(output, answer(function, x, y), b"\n")?;
-    Ok(true)
 }
 
-// A proved loop has to end, and nothing says that the input does: the turns are counted down.
 fn main(rt: HostRuntime) -> io::Result<()> {
-    let mut input = rt.stdin();
-    let mut output = rt.stdout();
-    let mut turns = u64::MAX;
-    while turns > 0 && replay(&mut input, &mut output)? {
-        turns -= 1;
-    }
-    Ok(())
+    run(&mut Floats, &mut rt.stdin(), &mut rt.stdout())
 }

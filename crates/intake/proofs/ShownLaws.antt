@@ -1,58 +1,79 @@
 -- What is listed of an input that was read to its end. Assumes nothing.
-use Prim.Native.Nat.{ℕ, ◌≤◌}
-use mathlib.Core.Path.{◌≡◌, refl, sym, ◌∙◌, subst}
+use Prim.Native.Nat.{ℕ, ◌^◌, ◌≤◌, ◌<◌}
+use mathlib.Core.Path.{◌≡◌, refl, sym, subst, ◌∙◌}
 use mathlib.Core.Bool.{true, false, true≢false}
 use mathlib.Core.List.{List, [], ◌∷◌}
 use lib.Dec.{leb}
 use lib.ListN.{length}
-use Rattle.answers.specs.Asking.{Listing, refuse_map, refused_with}
+use Rattle.answers.specs.Told.{counted}
+use Rattle.report.specs.Filed.{Listed}
+use Rattle.report.specs.Reported.{MapListed}
+use Rattle.limits.specs.Refusals.{number}
+use Rattle.limits.specs.declared.refusal.Refusal.{Refusal}
+use Rattle.mapfile.specs.declared.state.FileRefusal.{FileRefusal}
+use Rattle.std.proofs.Common.{Result, Ok, Err}
 use Rattle.answers.specs.declared.judge.Count.{Count}
 use Rattle.report.proofs.EndLaws.{list_read, list_refused}
-use Rattle.held.proofs.RoomLaws.{Enough, long_enough}
+use Rattle.held.proofs.RoomLaws.{long_enough}
 use Rattle.held.specs.Holds.{Holds, Tables, needs}
 use Rattle.held.specs.declared.map.Map.{Map}
-use Rattle.model.specs.Listing.{listed, refused_line}
+use Rattle.model.specs.Listing.{refused_line}
 use Rattle.model.specs.Map as model
-use Rattle.model.specs.MapFile.{done}
+use Rattle.model.specs.MapFile.{done, read_file}
 use Rattle.model.specs.Refusal.{short}
 use Rattle.print.specs.Printed.{Printed}
 use Rattle.model.specs.Limits.{line_room, need_listing, need_window}
+use Rattle.mapfile.proofs.FeedLaws.{held_long}
 use Rattle.mapfile.proofs.OwnLaws.{not_short}
-use Rattle.intake.specs.Showed.{Puts, Showed}
 use Rattle.intake.specs.Shown.{ShownInput, Tells, lent_out}
-use Rattle.intake.specs.Taken.{EndsWith, Taken, lent}
-use Rattle.intake.specs.declared.input.End.{End}
-use Rattle.intake.specs.declared.listing.Shown.{Shown}
-use Rattle.intake.specs.declared.output.Put.{Put}
+use Rattle.intake.specs.Taken.{Came, Taken, lent}
+use Rattle.intake.specs.declared.input.InputError.{InputError}
+use Rattle.intake.specs.declared.listing.ListError.{ListError}
 
-pub shown_lacking : (b o : List ℕ) (r : Count) → r ≡ refused_with 9 → short (lent_out b o) ≡ true → ShownInput b b o o (Shown.Listed r)
-shown_lacking b o r e s = record { lacking = λ _. (rw e refl, refl, refl); shown = λ f. absurd (true≢false (sym s ∙ f)) }
+-- a listing as it is told of the input
+abbrev pub shown_list : Result ℕ Refusal → Result ℕ ListError
+shown_list (Ok n) = Ok n
+shown_list (Err e) = Err (ListError.Refused e)
+
+pub shown_lacking : (b o : List ℕ) → short (lent_out b o) ≡ true → ShownInput b b o o (Err (ListError.Refused Refusal.ShortTable))
+shown_lacking b o s = record { lacking = λ _. (refl, refl, refl); shown = λ f. absurd (true≢false (sym s ∙ f)) }
 
 pub out_long : (b o : List ℕ) → short (lent_out b o) ≡ false → (need_window ≤ length b) × (need_listing ≤ length o)
 out_long b o s = let h = long_enough (lent_out b o) s in (h.0, h.1.0)
 
--- ---- what is lent is long enough: the input was read into tables of the call's own, and the end's cases
-module _ {b b' : List ℕ} (o : List ℕ) (s : short (lent_out b o) ≡ false) {t t' : Tables} {e : End} (x : Taken b b' t t' e) (own : Enough (needs t)) (o' : List ℕ) where
-  ended : (a : End) → e ≡ a → EndsWith a t t'
-  ended a q = subst (λ (z : End). EndsWith z t t') q (x.taken (not_short (lent b t) ((out_long b o s).0, own)))
+room : (b o : List ℕ) (t : Tables) → short (lent_out b o) ≡ false → short (needs t) ≡ false → short (lent b t) ≡ false
+room b o t s own = not_short (lent b t) ((out_long b o s).0, long_enough (needs t) own)
 
-  tells : (a : Shown) → Tells a o o' → ShownInput b b' o o' a
+-- ---- what is lent is long enough: the input was read into tables of the call's own, and the end's cases
+module _ {b b' : List ℕ} (o : List ℕ) (s : short (lent_out b o) ≡ false) (o' : List ℕ) where
+  tells : (a : Result ℕ ListError) → Tells a o o' → ShownInput b b' o o' a
   tells a h = record { lacking = λ g. absurd (true≢false (sym g ∙ s)); shown = λ _. h }
 
-  pub shown_unread : o' ≡ o → ShownInput b b' o o' Shown.Unread
-  shown_unread h = tells Shown.Unread h
+  pub shown_unread : o' ≡ o → ShownInput b b' o o' (Err ListError.Unread)
+  shown_unread h = tells (Err ListError.Unread) h
 
-  pub shown_refused : (n f k : ℕ) → e ≡ End.Refused n f → Printed (leb line_room (length o)) line_room (refused_line n f) 0 k o o' → ShownInput b b' o o' (Shown.Listed (record { refusal = 0; count = k }))
-  shown_refused n f k q p =
-      let y = ended (End.Refused n f) q in
-      tells (Shown.Listed (record { refusal = 0; count = k })) (y.0, y.1.few, list_refused y.0 o (out_long b o s).1 o' n f k y.1.reads p)
+  module _ {t t' : Tables} (own : short (needs t) ≡ false) where
+    pub shown_refused : (x : FileRefusal) (k : ℕ) → Taken b b' t t' (Err (InputError.Refused x)) → Printed (leb line_room (length o)) line_room (refused_line (number x.refusal) x.field) 0 k o o' → ShownInput b b' o o' (Ok k)
+    shown_refused x k w p =
+        let y = w.taken (room b o t s own) in
+        tells (Ok k) (y.0, y.1.few, list_refused y.0 o (out_long b o s).1 o' (number x.refusal) x.field k y.1.reads p)
 
-  pub shown_map : (m : Map) (lent : List (ℕ × ℕ)) (Hold : model.Map → Type 0) (r : Count) → e ≡ End.Map m → Enough lent → ((M : model.Map) → Holds m t' M → Hold M)
-      → Listing (refuse_map (short lent) m []) Hold (record { was = o; is = o'; wanted = λ M. listed (done M) } ∷ []) r → ShownInput b b' o o' (Shown.Listed r)
-  shown_map m lent Hold r q k h l =
-      let y = ended (End.Map m) q in
-      tells (Shown.Listed r) (y.0, y.1.few, list_read y.0 o (out_long b o s).1 o' m t' lent Hold r y.1.reads k h l)
+    -- the map is held, and the listing of it is what is told
+    pub shown_map : (m : Map) → Taken b b' t t' (Ok m) → (u : Tables) → u ≡ t' → (r : Result ℕ Refusal) → MapListed m u.cells u.points u.statuses u.blockers u.pairs o o' (counted r) → ShownInput b b' o o' (shown_list r)
+    shown_map m w u e r l = go r l
+      where
+        y : (bytes : List ℕ) × Came bytes t t' (Ok m)
+        y = w.taken (room b o t s own)
 
--- ---- what is shown is written
-pub showed : (b b' o o' : List ℕ) (a : Put) (s z : Shown) → ShownInput b b' o o' s → s ≡ z → Puts a z → Showed b b' o o' a
-showed b b' o o' a s z x e p = record { shown = z; input = subst (ShownInput b b' o o') e x; put = p }
+        q : (M : model.Map) × (read_file y.0 ≡ done M) × Holds m u M
+        q = subst (λ (v : Tables). (M : model.Map) × (read_file y.0 ≡ done M) × Holds m v M) (sym e) y.1.reads
+
+        listed_as : (c : Count) → MapListed m u.cells u.points u.statuses u.blockers u.pairs o o' c → Listed y.0 o o' c
+        listed_as c k =
+            let n = long_enough (needs u) (held_long m u q.0 q.2) in
+            let long = (out_long b o s).1 in
+            list_read y.0 o long o' m u _ _ c q (n.0, (n.1.0, (n.1.1.0, (n.1.1.1.0, (n.1.1.1.1.0, (long, tt)))))) (λ M h. (u, h, (refl, refl, refl, refl, refl))) k
+
+        go : (r : Result ℕ Refusal) → MapListed m u.cells u.points u.statuses u.blockers u.pairs o o' (counted r) → ShownInput b b' o o' (shown_list r)
+        go (Ok n) k = tells (Ok n) (y.0, y.1.few, listed_as (counted (Ok n)) k)
+        go (Err x) k = tells (Err (ListError.Refused x)) (y.0, y.1.few, listed_as (counted (Err x)) k)

@@ -1,61 +1,58 @@
 // The listing of the map file that a reader gives.
 ghost use Rattle.intake.specs.Shown.{ShownInput};
 
-use crate::input::{End, read_map};
-use answers::judge::{Count, lacks, refused};
+use crate::input::{InputError, read_map};
+use held::tables::Tables;
+use limits::lent::is_short;
+use limits::refusal::Refusal;
+use mapfile::state::FileRefusal;
 use print::refusal::put_refusal;
 use report::map::list_map;
 use sizes::{CELLS, LISTING, PAIRS, POINTS, WINDOW};
 use std::io::Read;
 
-// The count of the listing's bytes, or the refusal 9 of a buffer that is short; or an input that could not be read to its end.
-#[derive(Drop)]
-pub enum Shown {
-    Listed(Count),
+// Why nothing is listed: the refusal 9 of a buffer that is short, or an input that could not be read to its end.
+#[derive(Clone, Copy, Debug, PartialEq, Eq)]
+pub enum ListError {
+    Refused(Refusal),
     Unread,
 }
 
-// Writes the listing of the map file that the reader gives to `out`. It is read through `buffer`, of 2,307 bytes at least.
-pub fn list_input<R: Read>(input: &mut R, buffer: &mut [u8], out: &mut [u8]) -> Shown
+impl From<Refusal> for ListError {
+    ghost use Rattle.std.specs.Prelude.{◌≡◌};
+    ghost use Rattle.intake.specs.declared.listing.ListError.{ListError};
+
+    ghost from_gives = { λ r e. e ≡ ListError.Refused r };
+
+    fn from(refusal: Refusal) -> ListError {
+        ListError::Refused(refusal)
+    }
+}
+
+// Writes the listing of the map file that the reader gives to `out`, and returns the count of its bytes. It is read through
+// `buffer`, of 2,307 bytes at least.
+pub fn list_input<R: Read>(
+    input: &mut R,
+    buffer: &mut [u8],
+    out: &mut [u8],
+) -> Result<usize, ListError>
     ensures { ShownInput buffer.old buffer.new out.old out.new result }
 {
-    if lacks(buffer.len(), WINDOW, lacks(out.len(), LISTING, false)) {
-        return Shown::Listed(refused(9));
+    if is_short(&[(buffer.len(), WINDOW), (out.len(), LISTING)]) {
+        return Err(ListError::Refused(Refusal::ShortTable));
     }
-    let mut cells = [0u64; CELLS];
-    let mut points = [0u64; POINTS];
-    let mut statuses = [0u8; POINTS];
-    let mut blockers = [0u64; POINTS];
-    let mut pairs = [0u64; PAIRS];
-    let end = read_map(
-        input,
-        buffer,
-        &mut cells[..],
-        &mut points[..],
-        &mut statuses[..],
-        &mut blockers[..],
-        &mut pairs[..],
-    );
-    match end {
-        End::Map(map) => {
-            let listed = list_map(
-                map,
-                &cells[..],
-                &points[..],
-                &statuses[..],
-                &blockers[..],
-                &pairs[..],
-                out,
-            );
-            Shown::Listed(listed)
+    let mut tables = Tables {
+        cells: &mut [0; CELLS],
+        points: &mut [0; POINTS],
+        statuses: &mut [0; POINTS],
+        blockers: &mut [0; POINTS],
+        pairs: &mut [0; PAIRS],
+    };
+    match read_map(input, buffer, &mut tables) {
+        Ok(map) => Ok(list_map(map, tables.view(), out)?),
+        Err(InputError::Refused(FileRefusal { refusal, field })) => {
+            Ok(put_refusal(out, refusal.number(), field))
         }
-        End::Refused(number, field) => {
-            let n = put_refusal(out, number, field);
-            Shown::Listed(Count {
-                refusal: 0,
-                count: n,
-            })
-        }
-        End::Unread => Shown::Unread,
+        Err(InputError::Unread) => Err(ListError::Unread),
     }
 }

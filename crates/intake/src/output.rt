@@ -1,26 +1,28 @@
 // The listing of the map file that a reader gives, written to a writer.
-ghost use Rattle.std.specs.Prelude.{◌≡◌, false, length, ◌<◌};
 ghost use Rattle.intake.specs.Showed.{Showed};
 
-use crate::listing::{Shown, list_input};
+use crate::listing::{ListError, list_input};
 use std::io::{Read, Write};
 
-// The whole listing was written; or not all of it could be; or the input could not be read to its end, and nothing was.
-#[derive(Drop)]
-pub enum Put {
-    Whole,
+// The input could not be read to its end, and nothing was written; or not all of the listing could be.
+#[derive(Clone, Copy, Debug, PartialEq, Eq)]
+pub enum ShowError {
     Unwritten,
     Unread,
 }
 
-// Writes the first n bytes, and answers whether all of them were written.
-fn put_front<W: Write>(to: &mut W, out: &[u8], n: usize) -> bool
-    ensures { length out.now < n → result ≡ false }
-{
-    if out.len() < n {
-        return false;
+impl From<ListError> for ShowError {
+    ghost use Rattle.std.specs.Prelude.{◌≡◌};
+    ghost use Rattle.intake.specs.Showed.{shown_as};
+
+    ghost from_gives = { λ r e. e ≡ shown_as r };
+
+    fn from(error: ListError) -> ShowError {
+        match error {
+            ListError::Refused(_) => ShowError::Unwritten,
+            ListError::Unread => ShowError::Unread,
+        }
     }
-    to.write_all(&out[..n]).is_ok()
 }
 
 // Lists what the reader gives, and writes it to the writer. The buffers are those of `list_input`.
@@ -29,17 +31,10 @@ pub fn show_input<R: Read, W: Write>(
     to: &mut W,
     buffer: &mut [u8],
     out: &mut [u8],
-) -> Put
+) -> Result<(), ShowError>
     ensures { Showed buffer.old buffer.new out.old out.new result }
 {
-    let shown = list_input(from, buffer, out);
-    match shown {
-        Shown::Listed(listed) => {
-            if put_front(to, out, listed.count) {
-                return Put::Whole;
-            }
-            Put::Unwritten
-        }
-        Shown::Unread => Put::Unread,
-    }
+    let n = list_input(from, buffer, out)?;
+    let listing = out.get(..n).ok_or(ShowError::Unwritten)?;
+    to.write_all(listing).map_err(|_| ShowError::Unwritten)
 }

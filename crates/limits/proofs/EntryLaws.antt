@@ -1,16 +1,16 @@
 -- A flat batch as its entries, and the two judgements an entry at a time. Assumes nothing.
-use Prim.Native.Nat.{ℕ, ◌+◌, ◌-◌, ◌*◌, ◌/◌, ◌%◌, ◌^◌, ◌≤◌, ◌<◌}
-use native.Mathlib.Nat.{add-zero, le_of_suc-le-suc, not-suc-le-zero}
+use Prim.Native.Nat.{ℕ, ◌+◌, ◌/◌, ◌%◌, ◌^◌, ◌≤◌, ◌<◌}
+use native.Mathlib.Nat.{le_of_suc-le-suc, not-suc-le-zero}
 use native.Mathlib.Omega.{arith}
-use mathlib.Core.Path.{◌≡◌, refl, sym, ap, ◌∙◌}
+use mathlib.Core.Path.{◌≡◌, refl, sym, ◌∙◌}
 use mathlib.Core.Bool.{Bool, true, false, not, cond, ◌&&◌, ◌||◌}
-use mathlib.Core.List.{List, [], ◌∷◌}
+use mathlib.Core.List.{List, [], ◌∷◌, ◌++◌}
 use lib.Bits.{bit_or}
 use lib.Dec.{ltb}
 use lib.IntN.{ℤ, pos}
 use lib.Signed.{le_z, lt_z}
-use lib.ListN.{length, drop, get_or, length-drop}
-use lib.Seq.{get_or-drop, drop-drop}
+use lib.ListN.{length, drop, get_or}
+use lib.Seq.{drop-append_seam}
 use borrow.Author.Tests.{lt-ltb, le-ltb, eq-eqb, ne_eqb}
 use Rattle.model.specs.Limits.{max_batch, max_coordinate}
 use Rattle.model.specs.Map.{Entry}
@@ -26,17 +26,6 @@ item b i = get_or b i (pos 0)
 abbrev pub entry_at : List ℤ → ℕ → Entry
 entry_at b i = record { x = item b i; y = item b (i + 1); full = is_full (item b (i + 2)) }
 
-first : (c : List ℤ) → 2 < length c → entries c ≡ record { x = item c 0; y = item c 1; full = is_full (item c 2) } ∷ entries (drop 3 c)
-first [] h = absurd (not-suc-le-zero h)
-first (x ∷ []) h = absurd (not-suc-le-zero (le_of_suc-le-suc h))
-first (x ∷ y ∷ []) h = absurd (not-suc-le-zero (le_of_suc-le-suc (le_of_suc-le-suc h)))
-first (x ∷ y ∷ o ∷ l) h = refl
-
-pub entries_cons : (b : List ℤ) (i : ℕ) → i + 2 < length b → entries (drop i b) ≡ entry_at b i ∷ entries (drop (i + 3) b)
-entries_cons b i h =
-    let l : 2 < length (drop i b) = simp length-drop (omega arith) in
-    first (drop i b) l ∙ simp (get_or-drop, drop-drop, add-zero)
-
 pub entries_length : (b : List ℤ) → length (entries b) ≡ length b / 3
 entries_length [] = refl
 entries_length (x ∷ []) = refl
@@ -47,21 +36,22 @@ none : (l : List Entry) → length l ≤ 0 → l ≡ []
 none [] h = refl
 none (e ∷ l) h = absurd (not-suc-le-zero h)
 
-left_over : (b : List ℤ) (i n : ℕ) → length b ≤ i + (n * 3 + 2) → length (entries (drop i b)) ≤ n
-left_over b i n h =
-    let e : length (entries (drop i b)) ≡ (length b - i) / 3 = entries_length (drop i b) ∙ ap (λ (k : ℕ). k / 3) (length-drop i b) in
-    omega arith
+-- ---- three numbers at a time: the entry x, and those that are left
+pub entries_chunk : (l x r : List ℤ) → l ≡ x ++ r → length x ≡ 3 → entries l ≡ entry_at x 0 ∷ entries r
+entries_chunk l [] r e h = absurd (omega arith)
+entries_chunk l (x ∷ []) r e h = absurd (omega arith)
+entries_chunk l (x ∷ y ∷ []) r e h = absurd (omega arith)
+entries_chunk l (x ∷ y ∷ o ∷ []) r e h = rw e refl
+entries_chunk l (x ∷ y ∷ o ∷ z ∷ m) r e h = absurd (omega arith)
 
-pub entries_end : (b : List ℤ) (i : ℕ) → length b ≤ i + 2 → entries (drop i b) ≡ []
-entries_end b i h = none (entries (drop i b)) (left_over b i 0 h)
+pub chunk_off : (l x r : List ℤ) → l ≡ x ++ r → length x ≡ 3 → r ≡ drop 3 l
+chunk_off l x r e h = rw (e, ← h, drop-append_seam x r) refl
 
 -- ---- in disorder: an entry against the next one
-pub unsorted_next : (b : List ℤ) (i : ℕ) (t : Bool) → i + 5 < length b
-    → t ≡ lt_z (item b i) (item b (i + 3)) || (le_z (item b i) (item b (i + 3)) && lt_z (item b (i + 1)) (item b (i + 4))) → unsorted (entries (drop i b)) ≡ not t || unsorted (entries (drop (i + 3) b))
+pub unsorted_next : (l x r y q : List ℤ) (t : Bool) → l ≡ x ++ r → length x ≡ 3 → r ≡ y ++ q → length y ≡ 3
+    → t ≡ lt_z (item x 0) (item y 0) || (le_z (item x 0) (item y 0) && lt_z (item x 1) (item y 1)) → unsorted (entries l) ≡ not t || unsorted (entries r)
 unfolding unsorted
-unsorted_next b i t h e =
-    let four : i + 3 + 1 ≡ i + 4 = omega arith in
-    rw (e, entries_cons b i (omega arith), entries_cons b (i + 3) (omega arith), ← four)
+unsorted_next l x r y q t e h f k w = rw (w, entries_chunk l x r e h, entries_chunk r y q f k)
 
 one : (l : List Entry) → length l ≤ 1 → unsorted l ≡ false
 unfolding unsorted
@@ -69,18 +59,21 @@ one [] h = refl
 one (e ∷ []) h = refl
 one (e ∷ d ∷ l) h = absurd (not-suc-le-zero (le_of_suc-le-suc h))
 
-pub unsorted_end : (b : List ℤ) (i : ℕ) → length b ≤ i + 5 → unsorted (entries (drop i b)) ≡ false
-unsorted_end b i h = one (entries (drop i b)) (left_over b i 1 h)
+pub unsorted_end : (l : List ℤ) → length l < 6 → unsorted (entries l) ≡ false
+unsorted_end l h = one (entries l) (rw (entries_length l) (omega arith))
 
 -- ---- off the map
-pub outside_next : (b : List ℤ) (i : ℕ) (s t : Bool) → i + 2 < length b → s ≡ off_map max_coordinate (item b i) → t ≡ off_map max_coordinate (item b (i + 1))
-    → outside (entries (drop i b)) ≡ s || t || outside (entries (drop (i + 3) b))
+pub outside_next : (l x r : List ℤ) (s t : Bool) → l ≡ x ++ r → length x ≡ 3 → s ≡ off_map max_coordinate (item x 0) → t ≡ off_map max_coordinate (item x 1)
+    → outside (entries l) ≡ s || t || outside (entries r)
 unfolding outside
-outside_next b i s t h p q = rw (p, q, entries_cons b i h)
+outside_next l x r s t e h p q = rw (p, q, entries_chunk l x r e h)
 
-pub outside_end : (b : List ℤ) (i : ℕ) → length b ≤ i + 2 → outside (entries (drop i b)) ≡ false
+pub entries_few : (l : List ℤ) → length l < 3 → entries l ≡ []
+entries_few l h = none (entries l) (rw (entries_length l) (omega arith))
+
+pub outside_end : (l : List ℤ) → length l < 3 → outside (entries l) ≡ false
 unfolding outside
-outside_end b i h = rw (entries_end b i h)
+outside_end l h = rw (entries_few l h)
 
 -- ---- 3, 4 and 5
 pub ragged_is : (b : List ℤ) → (length b % 3 ≡ 0 → ⊥) → ragged b ≡ true

@@ -1,14 +1,14 @@
 -- A radius is bad exactly if one of the code's tests fails. Assumes nothing.
-use Prim.Native.Nat.{ℕ, ◌^◌, ◌<◌, zero-le}
+use Prim.Native.Nat.{ℕ, zero, suc}
 use native.Mathlib.Omega.{arith}
-use mathlib.Core.Path.{◌≡◌, refl, sym, ◌∙◌}
+use mathlib.Core.Path.{◌≡◌, refl}
 use mathlib.Core.Logic.{⊎_elim}
 use mathlib.Core.Bool.{true, false, not, false≢true, true≢false}
-use lib.Dec.{T}
 use lib.IntN.{ℤ, pos, negsuc, nat_abs}
-use lib.Signed.{le_z, lt_z, mag, non_neg}
+use lib.Signed.{le_z, lt_z}
 use lib.Ieee.{Float, nan, inf, fin, le, lt, eq}
 use borrow.Author.Tests.{le-leb, le-ltb, lt-leb, lt-ltb}
+use Rattle.std.specs.Int.{int_max}
 use Rattle.ieee.proofs.Tools.{lt_or_ge}
 use Rattle.ieee.specs.Constants.{nought}
 use Rattle.ieee.specs.Whole.{ceil_z}
@@ -40,19 +40,8 @@ pub over : (n : ℕ) (z : ℤ) → not (le_z z (pos n)) ≡ lt_z (pos n) z
 over n (pos m) = ⊎_elim (λ h. rw (lt-leb m n h, lt-ltb n m h) refl) (λ h. rw (le-leb m n h, le-ltb n m h) refl) (lt_or_ge n m)
 over n (negsuc m) = refl
 
--- ---- the shift as a natural number
-pub natural_below : (z : ℤ) → lt_z z (pos 0) ≡ true → natural z ≡ 0
-natural_below (pos n) h = absurd (true≢false (sym h ∙ le-ltb n 0 zero-le))
-natural_below (negsuc n) h = refl
-
-pub natural_above : (z : ℤ) → lt_z z (pos 0) ≡ false → natural z ≡ nat_abs z
-natural_above (pos n) h = refl
-natural_above (negsuc n) h = absurd (true≢false h)
-
-pub above_sign : (z : ℤ) → lt_z z (pos 0) ≡ false → T (non_neg z)
-above_sign (pos n) h = tt
-above_sign (negsuc n) h = absurd (true≢false h)
-
-pub above_fits : (z : ℤ) → mag z < 2 ^ 63 → lt_z z (pos 0) ≡ false → nat_abs z < 2 ^ 64
-above_fits (pos n) f h = omega arith
-above_fits (negsuc n) f h = absurd (true≢false h)
+-- the shift as a natural number
+pub natural_is : (z : ℤ) → nat_abs (int_max z (pos 0)) ≡ natural z
+natural_is (pos zero) = refl
+natural_is (pos (suc n)) = rw (lt-ltb 0 (suc n) (omega arith)) refl
+natural_is (negsuc n) = refl

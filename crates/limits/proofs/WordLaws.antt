@@ -1,18 +1,19 @@
 -- The refusals that are due, as a word: its bits are what the list says, and its first number in the order is the verdict. Assumes nothing.
-use Prim.Native.Nat.{ℕ, zero, suc, ◌+◌, ◌*◌, ◌/◌, ◌%◌, ◌^◌, ◌≤◌, ◌<◌}
-use native.Mathlib.Nat.{div-div-eq-div-mul, div-one, le_of_suc-le-suc, mod-eq_of_lt, mod-lt, mul-div_cancel, mul-mod_left, not-suc-le-zero, one-mul, pow-suc, pow-succ', zero-div, zero-lt-suc}
+use Prim.Native.Nat.{ℕ, zero, suc, ◌+◌, ◌/◌, ◌%◌, ◌^◌, ◌≤◌, ◌<◌}
+use native.Mathlib.Nat.{div-div-eq-div-mul, div-one, mul-div_cancel, mul-mod_left, pow-suc, pow-succ', zero-div, zero-lt-suc}
 use native.Mathlib.Numerals.{add-one}
 use native.Mathlib.Omega.{arith}
 use mathlib.Core.Path.{◌≡◌, refl, sym, ap, ◌∙◌}
-use mathlib.Core.Bool.{Bool, true, false, cond, ◌&&◌, ◌||◌, or_assoc, or-false}
-use mathlib.Core.List.{List, [], ◌∷◌, ◌++◌}
+use mathlib.Core.Bool.{Bool, true, false, cond, ◌||◌, or_assoc, or-false}
+use mathlib.Core.List.{List, [], ◌∷◌, ◌++◌, map}
 use lib.Bits.{bit_or, or_mod, or_shr, or_zero_r}
-use lib.Dec.{T, eqb, eqb-suc-suc, eqb-suc-zero, eqb-zero-suc, ltb, ltb→lt}
-use lib.ListN.{drop, get_or, length}
-use lib.Pow.{pow-lt}
+use lib.Dec.{eqb, eqb-suc-suc, eqb-suc-zero, eqb-zero-suc}
+use lib.ListN.{drop, drop_of_length-le, get_or, length}
 use lib.Seq.{drop-cons}
 use Rattle.model.specs.Refusal.{Dues, first_due, is_due, order, verdict}
+use Rattle.limits.specs.Refusals.{number}
 use Rattle.limits.specs.Words.{first_on, is_on, word_on}
+use Rattle.limits.specs.declared.refusal.Refusal.{Refusal}
 
 -- ---- bits
 on_or : (a b n : ℕ) → is_on (bit_or a b) n ≡ is_on a n || is_on b n
@@ -91,39 +92,12 @@ pub due_not : (n v : ℕ) (l : Dues) → word_on v ((n, false) ∷ l) ≡ word_o
 unfolding word_on
 due_not n v l = or_zero_r (word_on v l)
 
-pub bit_fits : (n : ℕ) → 1 * 2 ^ (n % 64) % 18446744073709551616 ≡ 2 ^ (n % 64)
-bit_fits n =
-    let h : 2 ^ (n % 64) < 2 ^ 64 = pow-lt (mod-lt n (zero-lt-suc 63)) in
-    rw (one-mul (2 ^ (n % 64))) (mod-eq_of_lt h)
-
 -- ---- the loop over the order
-pub order_next : (w i : ℕ) (b : Bool) → i < length order → is_on w (get_or order i 0) ≡ b → first_on (drop i order) w ≡ cond b (get_or order i 0) (first_on (drop (i + 1) order) w)
+pub first_next : (l : List Refusal) (w i : ℕ) (z : Refusal) (b : Bool) → i < length l → is_on w (number (get_or l i z)) ≡ b
+    → first_on (map number (drop i l)) w ≡ cond b (number (get_or l i z)) (first_on (map number (drop (i + 1) l)) w)
 unfolding first_on
-order_next w i b h e = ap (λ (l : List ℕ). first_on l w) (drop-cons order i 0 h) ∙ rw (e, add-one i) refl
+first_next l w i z b h e = ap (λ (m : List Refusal). first_on (map number m) w) (drop-cons l i z h) ∙ rw (e, add-one i) refl
 
-none_left : (ns : List ℕ) (i w : ℕ) → length ns ≤ i → first_on (drop i ns) w ≡ 0
+pub first_end : (l : List Refusal) (w i : ℕ) → length l ≤ i → first_on (map number (drop i l)) w ≡ 0
 unfolding first_on
-none_left [] zero w h = refl
-none_left [] (suc i) w h = refl
-none_left (n ∷ ns) zero w h = absurd (not-suc-le-zero h)
-none_left (n ∷ ns) (suc i) w h = none_left ns i w (le_of_suc-le-suc h)
-
-pub order_end : (w i : ℕ) → length order ≤ i → first_on (drop i order) w ≡ 0
-order_end w i h = none_left order i w h
-
--- every number has a bit
-abbrev all_below : ℕ → List ℕ → Bool
-all_below m [] = true
-all_below m (n ∷ ns) = ltb n m && all_below m ns
-
-and_parts : (a b : Bool) → T (a && b) → T a × T b
-and_parts true b t = (tt, t)
-and_parts false b t = absurd t
-
-below : (m : ℕ) (ns : List ℕ) → T (all_below m ns) → (i : ℕ) → i < length ns → get_or ns i 0 < m
-below m [] t i h = absurd (not-suc-le-zero h)
-below m (n ∷ ns) t zero h = ltb→lt n m (and_parts (ltb n m) (all_below m ns) t).0
-below m (n ∷ ns) t (suc i) h = below m ns (and_parts (ltb n m) (all_below m ns) t).1 i (le_of_suc-le-suc h)
-
-pub order_small : (i : ℕ) → i < length order → get_or order i 0 < 64
-order_small i h = below 64 order tt i h
+first_end l w i h = rw (drop_of_length-le l h) refl

@@ -1,41 +1,67 @@
-// The refusals that are due, as a word: bit n for the number n. And the one order in which they are answered.
-ghost use Rattle.std.specs.Prelude.{◌≡◌, cond, ◌%◌, ◌^◌};
+// The refusals that are due, and the one order in which they are answered.
+ghost use Rattle.std.specs.Prelude.{◌≡◌, cond, ◌^◌};
 ghost use Rattle.std.specs.Int.Bits.{bit_or};
 ghost use Rattle.model.specs.Refusal.{order};
+ghost use Rattle.limits.specs.Refusals.{code, number};
 ghost use Rattle.limits.specs.Words.{first_on};
 
-const ORDER: [u8; 9] = [9, 1, 2, 3, 4, 5, 6, 7, 8];
+use crate::refusal::Refusal;
 
-// The others, and this number where `is` says so.
-pub fn due(others: u64, number: u8, is: bool) -> u64
-    ensures { result ≡ bit_or others (cond is (2 ^ (number % 64)) 0) }
-{
-    if is {
-        return others | 1 << (number % 64);
-    }
-    others
+const ORDER: [Refusal; 9] = [
+    Refusal::ShortTable,
+    Refusal::CellSize,
+    Refusal::Radius,
+    Refusal::LongBatch,
+    Refusal::Disorder,
+    Refusal::OffMap,
+    Refusal::ManyCells,
+    Refusal::ManyPoints,
+    Refusal::BadQuestion,
+];
+
+// A set of refusals as a word: bit n for the number n.
+#[derive(Clone, Copy)]
+pub struct Due {
+    pub word: u64,
 }
 
-fn first_of(word: u64) -> u8
-    ensures { result ≡ first_on order word }
-{
-    let mut i = 0;
-    while i < 9 {
-        let number = ORDER[i];
-        if (word >> number) % 2 == 1 {
-            return number;
+impl Due {
+    pub fn none() -> Due
+        ensures { result.word ≡ 0 }
+    {
+        Due { word: 0 }
+    }
+
+    // The others, and this refusal where `is` says so.
+    pub fn and(self, refusal: Refusal, is: bool) -> Due
+        ensures { result.word ≡ bit_or self.word (cond is (2 ^ number refusal) 0) }
+    {
+        if is {
+            return Due {
+                word: self.word | 1 << refusal.number(),
+            };
         }
-        i += 1;
+        self
     }
-    0
-}
 
-// The first in the order, or 0 where none is due. A call that is not refused does not come to the loop.
-pub fn first_due(word: u64) -> u8
-    ensures { result ≡ first_on order word }
-{
-    if word == 0 {
-        return 0;
+    fn first_of(self) -> Result<(), Refusal>
+        ensures { code result ≡ first_on order self.word }
+    {
+        for refusal in ORDER {
+            if (self.word >> refusal.number()) % 2 == 1 {
+                return Err(refusal);
+            }
+        }
+        Ok(())
     }
-    first_of(word)
+
+    // The first in the order is the answer. A call that is not refused does not come to the loop.
+    pub fn first(self) -> Result<(), Refusal>
+        ensures { code result ≡ first_on order self.word }
+    {
+        if self.word == 0 {
+            return Ok(());
+        }
+        self.first_of()
+    }
 }

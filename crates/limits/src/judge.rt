@@ -6,40 +6,29 @@ ghost use Rattle.model.specs.Refusal.{bad_size, off_map, outside, unsorted};
 ghost use Rattle.limits.specs.Batches.{disorder, entries};
 ghost use Rattle.limits.specs.Words.{looked, word_on};
 
-use crate::due::due;
+use crate::due::Due;
+use crate::refusal::Refusal;
 use sizes::{BATCH, LEAST_COORDINATE, MOST_COORDINATE};
 
 // 1: the cell size.
 pub fn bad_size(size: f64) -> bool
     ensures { result ≡ bad_size size }
 {
-    if 0.0009765625 <= size && size <= 65536.0 {
-        return false;
-    }
-    true
+    !(0.0009765625 <= size && size <= 65536.0)
 }
 
 // Whether the cell (ax, ay) comes before (bx, by): by x, then by y.
 fn before(ax: i64, ay: i64, bx: i64, by: i64) -> bool
     ensures { result ≡ lt_z ax bx || (le_z ax bx && lt_z ay by) }
 {
-    if ax < bx {
-        return true;
-    }
-    if ax <= bx {
-        return ay < by;
-    }
-    false
+    ax < bx || ax <= bx && ay < by
 }
 
 // Whether a coordinate is beyond 1,048,576 either way.
 fn off_map(z: i64) -> bool
     ensures { result ≡ off_map max_coordinate z }
 {
-    if z < LEAST_COORDINATE {
-        return true;
-    }
-    MOST_COORDINATE < z
+    z < LEAST_COORDINATE || MOST_COORDINATE < z
 }
 
 // 4: whether some entry does not come after the one before it. An entry is three numbers, x, y, and 0 for free
@@ -47,12 +36,13 @@ fn off_map(z: i64) -> bool
 fn unsorted(batch: &[i64]) -> bool
     ensures { result ≡ unsorted (entries batch.now) }
 {
-    let mut i = 0;
-    while i + 5 < batch.len() {
-        if !before(batch[i], batch[i + 1], batch[i + 3], batch[i + 4]) {
+    if batch.len() < 3 {
+        return false;
+    }
+    for (a, b) in batch.chunks_exact(3).zip(batch[3..].chunks_exact(3)) {
+        if !before(a[0], a[1], b[0], b[1]) {
             return true;
         }
-        i += 3;
     }
     false
 }
@@ -61,15 +51,10 @@ fn unsorted(batch: &[i64]) -> bool
 fn outside(batch: &[i64]) -> bool
     ensures { result ≡ outside (entries batch.now) }
 {
-    let mut i = 0;
-    while i + 2 < batch.len() {
-        if off_map(batch[i]) {
+    for entry in batch.chunks_exact(3) {
+        if off_map(entry[0]) || off_map(entry[1]) {
             return true;
         }
-        if off_map(batch[i + 1]) {
-            return true;
-        }
-        i += 3;
     }
     false
 }
@@ -78,18 +63,17 @@ fn outside(batch: &[i64]) -> bool
 fn disorder(batch: &[i64]) -> bool
     ensures { result ≡ disorder batch.now }
 {
-    if batch.len() % 3 != 0 {
-        return true;
-    }
-    unsorted(batch)
+    batch.len() % 3 != 0 || unsorted(batch)
 }
 
 // The others, and 3, or 4 and 5: the entries of a batch that is too long are not looked at.
-pub fn batch_due(others: u64, batch: &[i64]) -> u64
-    ensures { result ≡ word_on others (looked batch.now) }
+pub fn batch_due(others: Due, batch: &[i64]) -> Due
+    ensures { result.word ≡ word_on others.word (looked batch.now) }
 {
     if BATCH < batch.len() / 3 {
-        return due(others, 3, true);
+        return others.and(Refusal::LongBatch, true);
     }
-    due(due(others, 5, outside(batch)), 4, disorder(batch))
+    others
+        .and(Refusal::OffMap, outside(batch))
+        .and(Refusal::Disorder, disorder(batch))
 }

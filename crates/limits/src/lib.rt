@@ -5,4 +5,6 @@ pub mod cell;
 pub mod due;
 pub mod floor;
 pub mod judge;
+pub mod lent;
 pub mod radius;
+pub mod refusal;

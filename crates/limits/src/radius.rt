@@ -10,23 +10,20 @@ use sizes::SHIFT;
 pub fn bad_radius(size: f64, radius: f64) -> bool
     ensures { result ≡ bad_radius size radius }
 {
-    if 0.0 <= radius && radius < f64::from_bits(9218868437227405312) {
-        return SHIFT < ieee::whole::ceil_to_i64(radius / size + 0.5);
-    }
-    true
+    !(0.0 <= radius && radius < f64::INFINITY)
+        || SHIFT < ieee::whole::ceil_to_i64(radius / size + 0.5)
 }
 
 // s = ceil(r/c + 0.5) (`calculate_cell_shift`)
 pub fn shift_of(size: f64, radius: f64) -> u64
     ensures { result ≡ shift_of size radius }
 {
-    let s = ieee::whole::ceil_to_i64(radius / size + 0.5);
-    if s < 0 { 0 } else { s as u64 }
+    ieee::whole::ceil_to_i64(radius / size + 0.5).max(0) as u64
 }
 
 // How many cells away a changed cell can matter for a point.
 pub fn reach_of(s: u64) -> u64
     ensures { result ≡ reach s }
 {
-    if s == 0 { 0 } else { s - 1 }
+    s.saturating_sub(1)
 }

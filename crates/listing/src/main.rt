@@ -3,22 +3,18 @@
 // says how many lines there are, and each line ends in a line feed.
 #![tactic(auto)]
 
-use intake::output::{Put, show_input};
+use intake::output::{ShowError, show_input};
 use sizes::LISTING;
 use std::io;
 
 fn main(rt: HostRuntime) -> io::Result<()> {
     let mut buffer = [0u8; 65536];
     let mut out = [0u8; LISTING];
-    let put = show_input(
-        &mut rt.stdin(),
-        &mut rt.stdout(),
-        &mut buffer[..],
-        &mut out[..],
-    );
-    match put {
-        Put::Whole => Ok(()),
-        Put::Unwritten => eprintln!(rt; "listing: not all of it could be written"),
-        Put::Unread => eprintln!(rt; "listing: standard input could not be read to its end"),
+    match show_input(&mut rt.stdin(), &mut rt.stdout(), &mut buffer, &mut out) {
+        Ok(()) => Ok(()),
+        Err(ShowError::Unwritten) => eprintln!(rt; "listing: not all of it could be written"),
+        Err(ShowError::Unread) => eprintln!(rt;
+            "listing: standard input could not be read to its end"
+        ),
     }
 }

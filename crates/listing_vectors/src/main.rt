@@ -6,7 +6,7 @@
 ghost use Rattle.std.specs.Prelude.{◌≡◌, ◌%◌, ◌+◌};
 ghost use Rattle.listing_vectors.specs.Names.{name_of};
 
-use intake::output::{Put, show_input};
+use intake::output::{ShowError, show_input};
 use sizes::{LISTING, WINDOW};
 use std::fs::File;
 use std::io;
@@ -33,11 +33,10 @@ fn tell<R: Read, W: Write>(
     buffer: &mut [u8],
     out: &mut [u8],
 ) -> io::Result<()> {
-    let put = show_input(from, to, buffer, out);
-    match put {
-        Put::Whole => Ok(()),
-        Put::Unwritten => println!(rt; "unwritten"),
-        Put::Unread => println!(rt; "unread"),
+    match show_input(from, to, buffer, out) {
+        Ok(()) => Ok(()),
+        Err(ShowError::Unwritten) => println!(rt; "unwritten"),
+        Err(ShowError::Unread) => println!(rt; "unread"),
     }
 }
 
@@ -52,13 +51,12 @@ fn list_file(rt: &HostRuntime, name: &str, buffer: &mut [u8], out: &mut [u8]) ->
 }
 
 fn list_all(rt: &HostRuntime, buffer: &mut [u8], out: &mut [u8]) -> io::Result<()> {
-    let mut n = 0;
-    let mut more = true;
-    while n < 10000 && more {
+    for n in 0..10000 {
         let name = name_of(n);
-        let text = str::from_utf8(&name[..]).unwrap();
-        more = list_file(rt, text, buffer, out)?;
-        n += 1;
+        let text = str::from_utf8(&name).unwrap();
+        if !list_file(rt, text, buffer, out)? {
+            break;
+        }
     }
     Ok(())
 }
@@ -72,7 +70,7 @@ fn list_nowhere(rt: &HostRuntime, buffer: &mut [u8], out: &mut [u8]) -> io::Resu
 fn main(rt: HostRuntime) -> io::Result<()> {
     let mut buffer = [0u8; WINDOW];
     let mut out = [0u8; LISTING];
-    list_all(&rt, &mut buffer[..], &mut out[..])?;
-    list_file(&rt, ".", &mut buffer[..], &mut out[..])?;
-    list_nowhere(&rt, &mut buffer[..], &mut out[..])
+    list_all(&rt, &mut buffer, &mut out)?;
+    list_file(&rt, ".", &mut buffer, &mut out)?;
+    list_nowhere(&rt, &mut buffer, &mut out)
 }

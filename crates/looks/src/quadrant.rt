@@ -7,30 +7,24 @@ use corner::bits::{Corner, CornerStatus};
 use sizes::COLUMN;
 
 // The corner of the signs of q - p, where neither is zero.
+#[tactic(auto, unfolding(model::specs::Corner::quadrant))]
 fn quadrant(p: u64, q: u64) -> Corner
     ensures { dir result ≡ quadrant p q }
 {
-    let north = p % COLUMN < q % COLUMN;
-    if p / COLUMN < q / COLUMN {
-        if north {
-            return Corner::Northeast;
-        }
-        return Corner::Southeast;
+    match (p / COLUMN < q / COLUMN, p % COLUMN < q % COLUMN) {
+        (true, true) => Corner::Northeast,
+        (true, false) => Corner::Southeast,
+        (false, true) => Corner::Northwest,
+        (false, false) => Corner::Southwest,
     }
-    if north {
-        return Corner::Northwest;
-    }
-    Corner::Southwest
 }
 
 // Whether p lies in the visible quadrant of q, which has this status.
+#[tactic(auto, unfolding(model::specs::Corner::sees))]
 pub fn sees(p: u64, q: u64, status: u8) -> bool
     ensures { (b : Bits) → status ≡ number b → result ≡ sees p q b }
 {
-    if p / COLUMN == q / COLUMN {
-        return true;
-    }
-    if p % COLUMN == q % COLUMN {
+    if p / COLUMN == q / COLUMN || p % COLUMN == q % COLUMN {
         return true;
     }
     let bits = CornerStatus { bits: status };

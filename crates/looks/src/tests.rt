@@ -5,22 +5,30 @@ ghost use Rattle.looks.specs.Tested.{Tells};
 use plane::cell::centre;
 use question::search::{Question, search};
 
-// The square of width 2r at the centre of k.
-pub fn square_at(size: f64, radius: f64, cells: &[u64], k: u64) -> u64
-    ensures { Tells cells.now ((tests size radius).square cells.now k) result }
-{
-    let found = search(size, cells, Question::Square(centre(k, size), 2.0 * radius));
-    found.key
+// What is looked over: the occupied cells, with the cell size and the radius.
+#[derive(Clone, Copy)]
+pub struct Ground<'a> {
+    pub size: f64,
+    pub radius: f64,
+    pub cells: &'a [u64],
 }
 
-// The sweep of width 2r from the centre of p to that of q.
-pub fn sweep_between(size: f64, radius: f64, cells: &[u64], p: u64, q: u64) -> u64
-    ensures { Tells cells.now ((tests size radius).sweep cells.now p q) result }
-{
-    let found = search(
-        size,
-        cells,
-        Question::Sweep(centre(p, size), centre(q, size), 2.0 * radius),
-    );
-    found.key
+impl Ground<'_> {
+    // The square of width 2r at the centre of k.
+    pub fn square_at(self, k: u64) -> u64
+        ensures { Tells self.entry.cells.now ((tests self.entry.size self.entry.radius).square self.entry.cells.now k) result }
+    {
+        let square = Question::Square(centre(k, self.size), 2.0 * self.radius);
+        search(self.size, self.cells, square).key
+    }
+
+    // The sweep of width 2r from the centre of p to that of q.
+    pub fn sweep_between(self, p: u64, q: u64) -> u64
+        ensures { Tells self.entry.cells.now ((tests self.entry.size self.entry.radius).sweep self.entry.cells.now p q) result }
+    {
+        let start = centre(p, self.size);
+        let end = centre(q, self.size);
+        let sweep = Question::Sweep(start, end, 2.0 * self.radius);
+        search(self.size, self.cells, sweep).key
+    }
 }

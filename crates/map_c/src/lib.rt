@@ -1,4 +1,5 @@
-// A map under C names: opening, batches, changes of the radius. Each function is the call of that name, with its contract.
+// A map under C names: opening, batches, changes of the radius. Each function is the call of that name, with its contract,
+// and its answer as C has it.
 #![tactic(auto)]
 
 ghost use Rattle.held.specs.Holds.{tables_of};
@@ -6,8 +7,11 @@ ghost use Rattle.visibility.specs.Change.{Changing, lent_of};
 ghost use Rattle.visibility.specs.Open.{Opening};
 ghost use Rattle.visibility.specs.Radius.{Rebuilding};
 
+use batches::lists::Outputs;
 use held::map::{Map, Outcome};
+use held::tables::Tables;
 use visibility::change::{Changed, change_cells};
+use visibility::lent::Layer;
 use visibility::open::open;
 use visibility::radius::change_radius;
 
@@ -26,7 +30,14 @@ pub extern "C" fn runcedau_open(
         (tables_of cells.old points.old statuses.old blockers.old pairs.old)
         (tables_of cells.new points.new statuses.new blockers.new pairs.new) result }
 {
-    open(size, radius, cells, points, statuses, blockers, pairs)
+    let mut tables = Tables {
+        cells,
+        points,
+        statuses,
+        blockers,
+        pairs,
+    };
+    Outcome::from(open(size, radius, &mut tables))
 }
 
 // A batch on a map: three numbers an entry, x, y, and 1 or 0.
@@ -50,9 +61,20 @@ pub extern "C" fn runcedau_change_cells(
         (lent_of cells.new points.new statuses.new blockers.new pairs.new
         confirmed.new full.new corners.new altered.new) result }
 {
-    change_cells(
-        map, cells, points, statuses, blockers, pairs, batch, confirmed, full, corners, altered,
-    )
+    let mut tables = Tables {
+        cells,
+        points,
+        statuses,
+        blockers,
+        pairs,
+    };
+    let mut outputs = Outputs {
+        confirmed,
+        full,
+        corners,
+        altered,
+    };
+    Changed::from(change_cells(map, &mut tables, batch, &mut outputs))
 }
 
 // A change of the radius.
@@ -70,5 +92,11 @@ pub extern "C" fn runcedau_change_radius(
         (tables_of cells.now points.old statuses.old blockers.old pairs.old)
         (tables_of cells.now points.new statuses.new blockers.new pairs.new) result }
 {
-    change_radius(map, cells, points, statuses, blockers, pairs, radius)
+    let mut layer = Layer {
+        points,
+        statuses,
+        blockers,
+        pairs,
+    };
+    Outcome::from(change_radius(map, cells, &mut layer, radius))
 }

@@ -7,214 +7,126 @@
 // r  radius: the radius is changed: refusal, cells, points
 //
 // Sizes and radii are bit patterns of f64, coordinates are two's complements.
+use crate::store::Store;
+use batches::lists::Outputs;
 use held::map::{Map, Outcome};
-use replay::change::{enter, write_changes};
-use replay::lines::answer;
+use held::tables::Tables;
+use limits::refusal::Refusal;
+use replay::change::{Batch, write_changes};
+use replay::lines::Reply;
 use replay::patterns::{float_at, integer_at};
-use sizes::{BATCH, CELLS, CORNERS, PAIRS, POINTS};
+use sizes::{BATCH, CORNERS};
 use std::io;
 use std::io::Write;
 use visibility::change::{Changed, change_cells};
+use visibility::lent::Layer;
 use visibility::open::open;
 use visibility::radius::change_radius;
 
-// The map, the one whose tables are told (that before a refused opening, else the same), the numbers of the batch so far, and
-// whether there was a line.
-#[derive(Clone, Copy)]
+// What is kept from line to line: the tables with their map, the map whose tables are told (that before a refused opening, else the
+// same), and the batch so far.
+#[derive(Drop)]
 pub(crate) struct State {
+    pub store: Store,
     pub map: Map,
     pub told: Map,
-    pub used: usize,
-    pub more: bool,
+    pub batch: Batch,
 }
 
-// Its own tables are told.
-fn with(map: Map, used: usize) -> State {
-    State {
-        map,
-        told: map,
-        used,
-        more: true,
+fn answer_map<W: Write>(reply: &mut Reply<'_, W>, answer: Result<Map, Refusal>) -> io::Result<()> {
+    let Outcome { refusal, map } = Outcome::from(answer);
+    reply.answer(&[refusal as u64, map.cells as u64, map.points as u64])
+}
+
+fn answer_batch<W: Write>(reply: &mut Reply<'_, W>, r: Changed) -> io::Result<()> {
+    reply.answer(&[
+        r.refusal as u64,
+        r.yes as u64,
+        r.confirmed as u64,
+        r.corners as u64,
+        r.map.cells as u64,
+        r.map.points as u64,
+    ])
+}
+
+impl State {
+    // Before the first line: no map, as after a refused opening.
+    pub(crate) fn start() -> State {
+        State {
+            store: Store::new(),
+            map: Map::none(),
+            told: Map::none(),
+            batch: Batch::new(),
+        }
     }
-}
 
-// Before the first line: no map, as after a refused opening.
-pub(crate) fn start() -> State {
-    let none = Map {
-        size: 0.0,
-        radius: 0.0,
-        cells: 0,
-        points: 0,
-    };
-    with(none, 0)
-}
+    // A new map, or what a refused opening gives, and an empty batch.
+    pub(crate) fn begin<W: Write>(&mut self, reply: &mut Reply<'_, W>) -> io::Result<()> {
+        let size = float_at(reply.line, 2);
+        let radius = float_at(reply.line, 19);
+        let opened = open(size, radius, &mut self.store.lend());
+        self.told = opened.unwrap_or(self.map);
+        self.map = opened.unwrap_or(Map::none());
+        self.batch = Batch::new();
+        answer_map(reply, opened)
+    }
 
-// The last state.
-pub(crate) fn stopped(state: State) -> State {
-    let mut last = state;
-    last.more = false;
-    last
-}
+    // One more entry of the batch.
+    pub(crate) fn add<W: Write>(&mut self, reply: &mut Reply<'_, W>, full: i64) -> io::Result<()> {
+        let line = reply.line;
+        self.batch
+            .enter(integer_at(line, 2), integer_at(line, 19), full);
+        reply.answer(&[])
+    }
 
-fn answer_plain<W: Write>(output: &mut W, line: &[u8], o: Outcome) -> io::Result<()> {
-    answer(
-        output,
-        line,
-        &[o.refusal as u64, o.map.cells as u64, o.map.points as u64],
-    )
-}
+    // The map after a call, if it was not refused. Its own tables are told.
+    fn keep(&mut self, after: Option<Map>) {
+        self.map = after.unwrap_or(self.map);
+        self.told = self.map;
+    }
 
-fn answer_batch<W: Write>(output: &mut W, line: &[u8], r: Changed) -> io::Result<()> {
-    answer(
-        output,
-        line,
-        &[
-            r.refusal as u64,
-            r.yes as u64,
-            r.confirmed as u64,
-            r.corners as u64,
-            r.map.cells as u64,
-            r.map.points as u64,
-        ],
-    )
-}
+    // The batch so far, given to the map: its numbers, then each change.
+    pub(crate) fn commit<W: Write>(&mut self, reply: &mut Reply<'_, W>) -> io::Result<()> {
+        let mut confirmed = [0u64; BATCH];
+        let mut full = [0u8; BATCH];
+        let mut corners = [0u64; CORNERS];
+        let mut altered = [0u8; CORNERS];
+        let mut outputs = Outputs {
+            confirmed: &mut confirmed,
+            full: &mut full,
+            corners: &mut corners,
+            altered: &mut altered,
+        };
+        let map = self.map;
+        let batch = self.batch;
+        let answer = change_cells(map, &mut self.store.lend(), batch.entries(), &mut outputs);
+        self.keep(answer.ok().map(|change| change.map));
+        self.batch = Batch::new();
+        let r = Changed::from(answer);
+        answer_batch(reply, r)?;
+        write_changes(reply.output, b"= ", &confirmed, &full, r.confirmed)?;
+        write_changes(reply.output, b"^ ", &corners, &altered, r.corners)
+    }
 
-// A new map, or what a refused opening gives, and an empty batch.
-pub(crate) fn begin<W: Write>(
-    output: &mut W,
-    line: &[u8],
-    state: State,
-    cells: &mut [u64; CELLS],
-    points: &mut [u64; POINTS],
-    statuses: &mut [u8; POINTS],
-    blockers: &mut [u64; POINTS],
-    pairs: &mut [u64; PAIRS],
-) -> io::Result<State> {
-    let size = float_at(line, 2);
-    let radius = float_at(line, 19);
-    let o = open(size, radius, cells, points, statuses, blockers, pairs);
-    answer_plain(output, line, o)?;
-    let before = state.map;
-    let after = o.map;
-    Ok(State {
-        map: after,
-        told: if o.refusal == 0 { after } else { before },
-        used: 0,
-        more: true,
-    })
-}
-
-// One more entry of the batch.
-pub(crate) fn add<W: Write>(
-    output: &mut W,
-    line: &[u8],
-    state: State,
-    batch: &mut [i64; 900],
-    full: i64,
-) -> io::Result<State> {
-    answer(output, line, &[])?;
-    let x = integer_at(line, 2);
-    let y = integer_at(line, 19);
-    let mut next = state;
-    next.used = enter(batch, state.used, x, y, full);
-    Ok(next)
-}
-
-// What a batch did: its numbers, then each change.
-fn tell_changes<W: Write>(
-    output: &mut W,
-    line: &[u8],
-    r: Changed,
-    confirmed: &[u64; BATCH],
-    full: &[u8; BATCH],
-    corners: &[u64; CORNERS],
-    altered: &[u8; CORNERS],
-) -> io::Result<()> {
-    answer_batch(output, line, r)?;
-    write_changes(output, b"= ", confirmed, full, r.confirmed)?;
-    write_changes(output, b"^ ", corners, altered, r.corners)
-}
-
-// Returns the map afterwards.
-fn change<W: Write>(
-    output: &mut W,
-    line: &[u8],
-    map: Map,
-    cells: &mut [u64; CELLS],
-    points: &mut [u64; POINTS],
-    statuses: &mut [u8; POINTS],
-    blockers: &mut [u64; POINTS],
-    pairs: &mut [u64; PAIRS],
-    batch: &[i64],
-) -> io::Result<Map> {
-    let mut confirmed = [0u64; BATCH];
-    let mut full = [0u8; BATCH];
-    let mut corners = [0u64; CORNERS];
-    let mut altered = [0u8; CORNERS];
-    let r = change_cells(
-        map,
-        cells,
-        points,
-        statuses,
-        blockers,
-        pairs,
-        batch,
-        &mut confirmed,
-        &mut full,
-        &mut corners,
-        &mut altered,
-    );
-    tell_changes(output, line, r, &confirmed, &full, &corners, &altered)?;
-    let after = r.map;
-    Ok(if r.refusal == 0 { after } else { map })
-}
-
-// The batch so far, given to the map.
-pub(crate) fn commit<W: Write>(
-    output: &mut W,
-    line: &[u8],
-    state: State,
-    cells: &mut [u64; CELLS],
-    points: &mut [u64; POINTS],
-    statuses: &mut [u8; POINTS],
-    blockers: &mut [u64; POINTS],
-    pairs: &mut [u64; PAIRS],
-    batch: &[i64],
-) -> io::Result<State> {
-    let map = state.map;
-    let used = state.used;
-    let mut after = map;
-    if used <= batch.len() {
-        after = change(
-            output,
-            line,
-            map,
+    // Another radius, or the same again. Entries stay pending.
+    pub(crate) fn set_radius<W: Write>(&mut self, reply: &mut Reply<'_, W>) -> io::Result<()> {
+        let radius = float_at(reply.line, 2);
+        let map = self.map;
+        let Tables {
             cells,
             points,
             statuses,
             blockers,
             pairs,
-            &batch[..used],
-        )?;
+        } = self.store.lend();
+        let mut layer = Layer {
+            points,
+            statuses,
+            blockers,
+            pairs,
+        };
+        let changed = change_radius(map, cells, &mut layer, radius);
+        self.keep(changed.ok());
+        answer_map(reply, changed)
     }
-    Ok(with(after, 0))
-}
-
-// Another radius, or the same again. Entries stay pending.
-pub(crate) fn set_radius<W: Write>(
-    output: &mut W,
-    line: &[u8],
-    state: State,
-    cells: &[u64; CELLS],
-    points: &mut [u64; POINTS],
-    statuses: &mut [u8; POINTS],
-    blockers: &mut [u64; POINTS],
-    pairs: &mut [u64; PAIRS],
-) -> io::Result<State> {
-    let map = state.map;
-    let radius = float_at(line, 2);
-    let o = change_radius(map, cells, points, statuses, blockers, pairs, radius);
-    answer_plain(output, line, o)?;
-    let given = o.map;
-    Ok(with(if o.refusal == 0 { given } else { map }, state.used))
 }

@@ -1,8 +1,10 @@
 // A line: a letter and as many operands of sixteen digits as the letter has.
 ghost use Rattle.std.specs.Prelude.{◌≤◌};
 
-use replay::lines::read_part;
 use std::io::Read;
+
+// The longest line.
+pub(crate) const LINE: usize = 87;
 
 // How many operands a line of the letter has.
 fn operands(letter: u8) -> usize
@@ -17,19 +19,10 @@ fn operands(letter: u8) -> usize
     }
 }
 
-// Reads the next line and returns its length, or 0 where the input ends before, or the longest would find no room.
-pub(crate) fn next_line<R: Read>(input: &mut R, line: &mut [u8]) -> usize
-    ensures { result ≤ 87 }
-{
-    if line.len() < 87 {
-        return 0;
-    }
-    if !read_part(input, line, 0, 1) {
-        return 0;
-    }
-    let end = 2 + 17 * operands(line[0]);
-    if !read_part(input, line, 1, end) {
-        return 0;
-    }
-    end
+// Reads the next line, where the input has that much.
+pub(crate) fn next_line<'a, R: Read>(input: &mut R, room: &'a mut [u8; LINE]) -> Option<&'a [u8]> {
+    input.read_exact(&mut room[..1]).ok()?;
+    let end = 2 + 17 * operands(room[0]);
+    input.read_exact(&mut room[1..end]).ok()?;
+    Some(&room[..end])
 }

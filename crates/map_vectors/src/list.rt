@@ -9,140 +9,110 @@ use answers::cells::{corner_cells, occupied_cells};
 use answers::pairs::{all_pairs, open_pairs};
 use answers::points::{all_points, free_points};
 use held::map::Map;
+use held::tables::View;
 use replay::change::write_changes;
-use sizes::{CELLS, LISTED, PAIRS, POINTS};
+use replay::lines::Reply;
+use sizes::{CELLS, LISTED, POINTS};
 use std::io;
 use std::io::Write;
 
 // Writes the first `count` pairs.
 fn write_pairs<W: Write>(
     output: &mut W,
-    lesser: &[u64; LISTED],
-    greater: &[u64; LISTED],
-    blocks: &[u64; LISTED],
+    lesser: &[u64],
+    greater: &[u64],
+    blocks: &[u64],
     count: usize,
 ) -> io::Result<()> {
-    if LISTED < count {
-        return Ok(());
-    }
-    let mut i = 0;
-    while i < count {
-        write_pair(output, lesser[i], greater[i], blocks[i], b"\n")?;
-        i += 1;
+    let rows = lesser.iter().zip(greater).zip(blocks);
+    for ((from, to), blocker) in rows.take(count) {
+        write_pair(output, *from, *to, *blocker, b"\n")?;
     }
     Ok(())
 }
 
-fn list_cells<W: Write>(
-    output: &mut W,
-    line: &[u8],
-    map: Map,
-    cells: &[u64; CELLS],
-) -> io::Result<()> {
+fn list_cells<W: Write>(reply: &mut Reply<'_, W>, map: Map, tables: View) -> io::Result<()> {
     let mut out = [0u64; CELLS];
-    let r = occupied_cells(map, cells, &mut out);
-    answer_count(output, line, r)?;
-    write_cells(output, &out, r.count)
+    let count = answer_count(reply, occupied_cells(map, tables.cells, &mut out))?;
+    write_cells(reply.output, &out, count)
 }
 
-fn list_corners<W: Write>(
-    output: &mut W,
-    line: &[u8],
-    map: Map,
-    cells: &[u64; CELLS],
-) -> io::Result<()> {
+fn list_corners<W: Write>(reply: &mut Reply<'_, W>, map: Map, tables: View) -> io::Result<()> {
     let mut out = [0u64; CELLS];
     let mut statuses = [0u8; CELLS];
-    let r = corner_cells(map, cells, &mut out, &mut statuses);
-    answer_count(output, line, r)?;
-    write_changes(output, b"^ ", &out, &statuses, r.count)
+    let listed = corner_cells(map, tables.cells, &mut out, &mut statuses);
+    let count = answer_count(reply, listed)?;
+    write_changes(reply.output, b"^ ", &out, &statuses, count)
 }
 
-fn list_points<W: Write>(
-    output: &mut W,
-    line: &[u8],
-    map: Map,
-    points: &[u64; POINTS],
-    statuses: &[u8; POINTS],
-    blockers: &[u64; POINTS],
-) -> io::Result<()> {
+fn list_points<W: Write>(reply: &mut Reply<'_, W>, map: Map, tables: View) -> io::Result<()> {
     let mut out = [0u64; POINTS];
     let mut bits = [0u8; POINTS];
     let mut blocks = [0u64; POINTS];
-    let r = all_points(
+    let listed = all_points(
         map,
-        points,
-        statuses,
-        blockers,
+        tables.points,
+        tables.statuses,
+        tables.blockers,
         &mut out,
         &mut bits,
         &mut blocks,
     );
-    answer_count(output, line, r)?;
-    write_points(output, r.count, &out, &bits, &blocks)
+    let count = answer_count(reply, listed)?;
+    write_points(reply.output, count, &out, &bits, &blocks)
 }
 
-fn list_free<W: Write>(
-    output: &mut W,
-    line: &[u8],
-    map: Map,
-    points: &[u64; POINTS],
-    blockers: &[u64; POINTS],
-) -> io::Result<()> {
+fn list_free<W: Write>(reply: &mut Reply<'_, W>, map: Map, tables: View) -> io::Result<()> {
     let mut out = [0u64; POINTS];
-    let r = free_points(map, points, blockers, &mut out);
-    answer_count(output, line, r)?;
-    write_cells(output, &out, r.count)
+    let listed = free_points(map, tables.points, tables.blockers, &mut out);
+    let count = answer_count(reply, listed)?;
+    write_cells(reply.output, &out, count)
 }
 
-fn list_pairs<W: Write>(
-    output: &mut W,
-    line: &[u8],
-    map: Map,
-    points: &[u64; POINTS],
-    pairs: &[u64; PAIRS],
-) -> io::Result<()> {
+fn list_pairs<W: Write>(reply: &mut Reply<'_, W>, map: Map, tables: View) -> io::Result<()> {
     let mut lesser = [0u64; LISTED];
     let mut greater = [0u64; LISTED];
     let mut blocks = [0u64; LISTED];
-    let r = all_pairs(map, points, pairs, &mut lesser, &mut greater, &mut blocks);
-    answer_count(output, line, r)?;
-    write_pairs(output, &lesser, &greater, &blocks, r.count)
+    let listed = all_pairs(
+        map,
+        tables.points,
+        tables.pairs,
+        &mut lesser,
+        &mut greater,
+        &mut blocks,
+    );
+    let count = answer_count(reply, listed)?;
+    write_pairs(reply.output, &lesser, &greater, &blocks, count)
 }
 
 // Nothing blocks them.
-fn list_open<W: Write>(
-    output: &mut W,
-    line: &[u8],
-    map: Map,
-    points: &[u64; POINTS],
-    blockers: &[u64; POINTS],
-    pairs: &[u64; PAIRS],
-) -> io::Result<()> {
+fn list_open<W: Write>(reply: &mut Reply<'_, W>, map: Map, tables: View) -> io::Result<()> {
     let mut lesser = [0u64; LISTED];
     let mut greater = [0u64; LISTED];
-    let r = open_pairs(map, points, blockers, pairs, &mut lesser, &mut greater);
-    answer_count(output, line, r)?;
-    write_pairs(output, &lesser, &greater, &[0; LISTED], r.count)
+    let listed = open_pairs(
+        map,
+        tables.points,
+        tables.blockers,
+        tables.pairs,
+        &mut lesser,
+        &mut greater,
+    );
+    let count = answer_count(reply, listed)?;
+    write_pairs(reply.output, &lesser, &greater, &[0; LISTED], count)
 }
 
 pub(crate) fn tell_list<W: Write>(
-    output: &mut W,
+    reply: &mut Reply<'_, W>,
     letter: u8,
-    line: &[u8],
     map: Map,
-    cells: &[u64; CELLS],
-    points: &[u64; POINTS],
-    statuses: &[u8; POINTS],
-    blockers: &[u64; POINTS],
-    pairs: &[u64; PAIRS],
+    tables: View,
 ) -> io::Result<()> {
     match letter {
-        b'O' => list_cells(output, line, map, cells),
-        b'C' => list_corners(output, line, map, cells),
-        b'P' => list_points(output, line, map, points, statuses, blockers),
-        b'F' => list_free(output, line, map, points, blockers),
-        b'E' => list_pairs(output, line, map, points, pairs),
-        _ => list_open(output, line, map, points, blockers, pairs),
+        b'O' => list_cells(reply, map, tables),
+        b'C' => list_corners(reply, map, tables),
+        b'P' => list_points(reply, map, tables),
+        b'F' => list_free(reply, map, tables),
+        b'E' => list_pairs(reply, map, tables),
+        _ => list_open(reply, map, tables),
     }
 }

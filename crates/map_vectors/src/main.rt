@@ -7,134 +7,60 @@ mod call;
 mod line;
 mod list;
 mod query;
+mod store;
 mod tables;
 mod write;
 
-use call::{State, add, begin, commit, set_radius, start, stopped};
-use line::next_line;
+use call::State;
+use line::{LINE, next_line};
 use list::tell_list;
 use query::{find, look, see, step};
-use sizes::{CELLS, PAIRS, POINTS};
+use replay::lines::Reply;
+use replay::program::{Program, run};
 use std::io;
 use std::io::{Read, Write};
 use tables::tell_tables;
 
 // A question, a list or the tables.
-fn tell<W: Write>(
-    output: &mut W,
-    letter: u8,
-    line: &[u8],
-    state: State,
-    cells: &[u64; CELLS],
-    points: &[u64; POINTS],
-    statuses: &[u8; POINTS],
-    blockers: &[u64; POINTS],
-    pairs: &[u64; PAIRS],
-) -> io::Result<()> {
+fn tell<W: Write>(state: &State, reply: &mut Reply<'_, W>, letter: u8) -> io::Result<()> {
     let map = state.map;
-    let told = state.told;
+    let tables = state.store.view();
     match letter {
-        b'T' => tell_tables(output, line, told, points, statuses, blockers, pairs),
-        b'i' => look(output, line, map, cells),
-        b'p' | b's' | b'c' | b'w' => find(output, letter, line, map, cells),
-        b'v' => see(output, line, map, cells, points, statuses, blockers, pairs),
-        b'n' => step(output, line, map, cells),
-        _ => tell_list(
-            output, letter, line, map, cells, points, statuses, blockers, pairs,
-        ),
+        b'T' => tell_tables(reply, state.told, &state.store),
+        b'i' => look(reply, map, tables),
+        b'p' | b's' | b'c' | b'w' => find(reply, letter, map, tables),
+        b'v' => see(reply, map, tables),
+        b'n' => step(reply, map, tables),
+        _ => tell_list(reply, letter, map, tables),
     }
 }
 
 // What the line asks for.
-fn obey<W: Write>(
-    output: &mut W,
-    letter: u8,
-    line: &[u8],
-    state: State,
-    cells: &mut [u64; CELLS],
-    points: &mut [u64; POINTS],
-    statuses: &mut [u8; POINTS],
-    blockers: &mut [u64; POINTS],
-    pairs: &mut [u64; PAIRS],
-    batch: &mut [i64; 900],
-) -> io::Result<State> {
+fn obey<W: Write>(state: &mut State, reply: &mut Reply<'_, W>, letter: u8) -> io::Result<()> {
     match letter {
-        b'o' => begin(
-            output, line, state, cells, points, statuses, blockers, pairs,
-        ),
-        b'+' => add(output, line, state, batch, 1),
-        b'-' => add(output, line, state, batch, 0),
-        b'b' => commit(
-            output, line, state, cells, points, statuses, blockers, pairs, batch,
-        ),
-        b'r' => set_radius(
-            output, line, state, cells, points, statuses, blockers, pairs,
-        ),
-        _ => {
-            tell(
-                output, letter, line, state, cells, points, statuses, blockers, pairs,
-            )?;
-            Ok(state)
-        }
+        b'o' => state.begin(reply),
+        b'+' => state.add(reply, 1),
+        b'-' => state.add(reply, 0),
+        b'b' => state.commit(reply),
+        b'r' => state.set_radius(reply),
+        _ => tell(state, reply, letter),
     }
 }
 
-// One line, where there is one.
-fn replay<R: Read, W: Write>(
-    input: &mut R,
-    output: &mut W,
-    state: State,
-    cells: &mut [u64; CELLS],
-    points: &mut [u64; POINTS],
-    statuses: &mut [u8; POINTS],
-    blockers: &mut [u64; POINTS],
-    pairs: &mut [u64; PAIRS],
-    batch: &mut [i64; 900],
-) -> io::Result<State> {
-    let mut line = [0u8; 87];
-    let end = next_line(input, &mut line);
-    if end == 0 {
-        return Ok(stopped(state));
+impl Program for State {
+    fn replay<R: Read, W: Write>(&mut self, input: &mut R, output: &mut W) -> io::Result<bool> {
+        let mut room = [0u8; LINE];
+        let Some(line) = next_line(input, &mut room) else {
+            return Ok(false);
+        };
+        let Some(letter) = line.first().copied() else {
+            return Ok(false);
+        };
+        obey(self, &mut Reply { line, output }, letter)?;
+        Ok(true)
     }
-    obey(
-        output,
-        line[0],
-        &line[..end],
-        state,
-        cells,
-        points,
-        statuses,
-        blockers,
-        pairs,
-        batch,
-    )
 }
 
-// A proved loop has to end, and nothing says that the input does: the turns are counted down.
 fn main(rt: HostRuntime) -> io::Result<()> {
-    let mut input = rt.stdin();
-    let mut output = rt.stdout();
-    let mut cells = [0u64; CELLS];
-    let mut points = [0u64; POINTS];
-    let mut statuses = [0u8; POINTS];
-    let mut blockers = [0u64; POINTS];
-    let mut pairs = [0u64; PAIRS];
-    let mut batch = [0i64; 900];
-    let mut state = start();
-    let mut turns = u64::MAX;
-    while turns > 0 && state.more {
-        state = replay(
-            &mut input,
-            &mut output,
-            state,
-            &mut cells,
-            &mut points,
-            &mut statuses,
-            &mut blockers,
-            &mut pairs,
-            &mut batch,
-        )?;
-        turns -= 1;
-    }
-    Ok(())
+    run(&mut State::start(), &mut rt.stdin(), &mut rt.stdout())
 }

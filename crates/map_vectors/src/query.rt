@@ -7,64 +7,42 @@
 // Coordinates of points, widths and radii are bit patterns of f64, coordinates of cells are two's complements.
 use crate::write::{answer_count, write_cells};
 use answers::ask::ask;
-use answers::cells::is_occupied;
+use answers::cells::{Told, is_occupied};
 use held::map::Map;
-use replay::lines::answer;
+use held::tables::View;
+use replay::lines::Reply;
 use replay::questions::{answer_place, cell_at, question_at};
-use sizes::{CELLS, PAIRS, POINTS};
+use sizes::POINTS;
 use std::io;
 use std::io::Write;
 use views::neighbours::neighbours;
 use views::visibility_from::visibility_from;
 
-pub(crate) fn look<W: Write>(
-    output: &mut W,
-    line: &[u8],
-    map: Map,
-    cells: &[u64; CELLS],
-) -> io::Result<()> {
-    let t = is_occupied(map, cells, cell_at(line));
-    answer(output, line, &[t.refusal as u64, t.yes as u64])
+pub(crate) fn look<W: Write>(reply: &mut Reply<'_, W>, map: Map, tables: View) -> io::Result<()> {
+    let told = Told::from(is_occupied(map, tables.cells, cell_at(reply.line)));
+    reply.answer(&[told.refusal as u64, told.yes as u64])
 }
 
 pub(crate) fn find<W: Write>(
-    output: &mut W,
+    reply: &mut Reply<'_, W>,
     letter: u8,
-    line: &[u8],
     map: Map,
-    cells: &[u64; CELLS],
+    tables: View,
 ) -> io::Result<()> {
-    let a = ask(map, cells, question_at(letter, line));
-    answer_place(output, line, a)
+    let question = question_at(letter, reply.line);
+    answer_place(reply, ask(map, tables.cells, question))
 }
 
-pub(crate) fn see<W: Write>(
-    output: &mut W,
-    line: &[u8],
-    map: Map,
-    cells: &[u64; CELLS],
-    points: &[u64; POINTS],
-    statuses: &[u8; POINTS],
-    blockers: &[u64; POINTS],
-    pairs: &[u64; PAIRS],
-) -> io::Result<()> {
+pub(crate) fn see<W: Write>(reply: &mut Reply<'_, W>, map: Map, tables: View) -> io::Result<()> {
     let mut out = [0u64; POINTS];
-    let cell = cell_at(line);
-    let r = visibility_from(
-        map, cells, points, statuses, blockers, pairs, cell, &mut out,
-    );
-    answer_count(output, line, r)?;
-    write_cells(output, &out, r.count)
+    let cell = cell_at(reply.line);
+    let count = answer_count(reply, visibility_from(map, tables, cell, &mut out))?;
+    write_cells(reply.output, &out, count)
 }
 
-pub(crate) fn step<W: Write>(
-    output: &mut W,
-    line: &[u8],
-    map: Map,
-    cells: &[u64; CELLS],
-) -> io::Result<()> {
+pub(crate) fn step<W: Write>(reply: &mut Reply<'_, W>, map: Map, tables: View) -> io::Result<()> {
     let mut out = [0u64; POINTS];
-    let r = neighbours(map, cells, cell_at(line), &mut out);
-    answer_count(output, line, r)?;
-    write_cells(output, &out, r.count)
+    let cell = cell_at(reply.line);
+    let count = answer_count(reply, neighbours(map, tables.cells, cell, &mut out))?;
+    write_cells(reply.output, &out, count)
 }

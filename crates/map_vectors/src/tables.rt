@@ -5,10 +5,11 @@
 ghost use Rattle.std.specs.Prelude.{◌<◌, ◌≤◌};
 ghost use Rattle.held.specs.Pairs.{max_points};
 
+use crate::store::Store;
 use crate::write::{write_pair, write_points};
 use held::map::Map;
-use replay::lines::answer;
-use sizes::{PAIRS, POINTS};
+use replay::lines::Reply;
+use sizes::POINTS;
 use std::io;
 use std::io::Write;
 
@@ -20,71 +21,48 @@ fn write_both<W: Write>(
     there: u64,
     back: u64,
 ) -> io::Result<()> {
-    if there == back {
-        if there != 0 {
-            return write_pair(output, lesser, greater, there, b"\n");
-        }
-        Ok(())
-    } else {
+    if there != back {
         write_pair(output, lesser, greater, there, b" !\n")
+    } else if there != 0 {
+        write_pair(output, lesser, greater, there, b"\n")
+    } else {
+        Ok(())
     }
 }
 
 // A point's pairs with those that are not less. None has one with itself.
-fn write_row<W: Write>(
-    output: &mut W,
-    i: usize,
-    count: usize,
-    points: &[u64; POINTS],
-    pairs: &[u64; PAIRS],
-) -> io::Result<()>
+fn write_row<W: Write>(output: &mut W, i: usize, count: usize, store: &Store) -> io::Result<()>
     requires { (i < count) × (count ≤ max_points) }
 {
-    let mut j = i;
-    while j < count {
+    for j in i..count {
         write_both(
             output,
-            points[i],
-            points[j],
-            pairs[POINTS * i + j],
-            pairs[POINTS * j + i],
+            store.points[i],
+            store.points[j],
+            store.pairs[POINTS * i + j],
+            store.pairs[POINTS * j + i],
         )?;
-        j += 1;
-    }
-    Ok(())
-}
-
-fn write_pairs<W: Write>(
-    output: &mut W,
-    count: usize,
-    points: &[u64; POINTS],
-    pairs: &[u64; PAIRS],
-) -> io::Result<()>
-    requires { count ≤ max_points }
-{
-    let mut i = 0;
-    while i < count {
-        write_row(output, i, count, points, pairs)?;
-        i += 1;
     }
     Ok(())
 }
 
 // Every point and every pair of a map.
 pub(crate) fn tell_tables<W: Write>(
-    output: &mut W,
-    line: &[u8],
+    reply: &mut Reply<'_, W>,
     map: Map,
-    points: &[u64; POINTS],
-    statuses: &[u8; POINTS],
-    blockers: &[u64; POINTS],
-    pairs: &[u64; PAIRS],
+    store: &Store,
 ) -> io::Result<()> {
-    answer(output, line, &[])?;
-    let count = map.points;
-    if count <= POINTS {
-        write_points(output, count, points, statuses, blockers)?;
-        write_pairs(output, count, points, pairs)?;
+    reply.answer(&[])?;
+    let count = map.points.min(POINTS);
+    write_points(
+        reply.output,
+        count,
+        &store.points,
+        &store.statuses,
+        &store.blockers,
+    )?;
+    for i in 0..count {
+        write_row(reply.output, i, count, store)?;
     }
     Ok(())
 }

@@ -1,13 +1,19 @@
 // Cells, points and pairs on lines of their own, and how many there are.
 use answers::judge::Count;
+use limits::refusal::Refusal;
 use replay::change::write_cell;
-use replay::lines::{answer, write_number};
-use sizes::POINTS;
+use replay::lines::{Reply, write_number};
 use std::io;
 use std::io::Write;
 
-pub(crate) fn answer_count<W: Write>(output: &mut W, line: &[u8], r: Count) -> io::Result<()> {
-    answer(output, line, &[r.refusal as u64, r.count as u64])
+// The refusal, and how many there are, which is returned too.
+pub(crate) fn answer_count<W: Write>(
+    reply: &mut Reply<'_, W>,
+    answer: Result<usize, Refusal>,
+) -> io::Result<usize> {
+    let told = Count::from(answer);
+    reply.answer(&[told.refusal as u64, told.count as u64])?;
+    Ok(told.count)
 }
 
 // A number below 2 is no blocker.
@@ -46,35 +52,22 @@ pub(crate) fn write_pair<W: Write>(
 pub(crate) fn write_points<W: Write>(
     output: &mut W,
     count: usize,
-    points: &[u64; POINTS],
-    statuses: &[u8; POINTS],
-    blockers: &[u64; POINTS],
+    points: &[u64],
+    statuses: &[u8],
+    blockers: &[u64],
 ) -> io::Result<()> {
-    if POINTS < count {
-        return Ok(());
-    }
-    let mut i = 0;
-    while i < count {
-        write_point(output, points[i], statuses[i], blockers[i])?;
-        i += 1;
+    let rows = points.iter().zip(statuses).zip(blockers);
+    for ((point, status), blocker) in rows.take(count) {
+        write_point(output, *point, *status, *blocker)?;
     }
     Ok(())
 }
 
-fn write_line<W: Write>(output: &mut W, key: u64) -> io::Result<()> {
-    output.write_all(b". ")?;
-    write_cell(output, key, b" ", b"\n")
-}
-
 // Writes the first `count` cells.
 pub(crate) fn write_cells<W: Write>(output: &mut W, cells: &[u64], count: usize) -> io::Result<()> {
-    if cells.len() < count {
-        return Ok(());
-    }
-    let mut i = 0;
-    while i < count {
-        write_line(output, cells[i])?;
-        i += 1;
+    for key in cells.iter().take(count) {
+        output.write_all(b". ")?;
+        write_cell(output, *key, b" ", b"\n")?;
     }
     Ok(())
 }

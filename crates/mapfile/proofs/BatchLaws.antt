@@ -1,5 +1,5 @@
 -- Field 03: its entries as numbers, and a batch of them. Assumes nothing.
-use Rattle.std.proofs.Common.{◌≡◌, ℕ, zero, suc, ◌/◌, ◌%◌, ◌≤◌, false, eqb, ltb, List, length, get_or, take, drop, replicate, ℤ, pos, sym, refl, ap, ◌∙◌, subst, ⊎_elim, arith, length-append, length-drop, length-take-le, take_at, ltb-false, ne_eqb}
+use Rattle.std.proofs.Common.{◌≡◌, ℕ, zero, suc, ◌/◌, ◌%◌, ◌≤◌, false, eqb, ltb, List, length, get_or, take, drop, replicate, ℤ, pos, sym, refl, ap, ◌∙◌, subst, ⊎_elim, arith, length-append, length-drop, length-take-le, take_at, ltb-false, ne_eqb, Ok, Err}
 use Rattle.mapfile.specs.Fields.{Numbers, numbers_of}
 use Rattle.mapfile.specs.declared.head.Expected.{Expected}
 use Rattle.ieee.proofs.Tools.{lt_or_ge}
@@ -12,12 +12,18 @@ use Rattle.model.specs.MapFile.{bad_flag, entry_bytes, take_batch}
 use Rattle.model.specs.Refusal.{judge, refusal, short, step, unless}
 use Rattle.visibility.specs.Change.{Changing, Lent, lent_needs}
 use Rattle.held.specs.Holds.{Holds, Tables, needs}
+use Rattle.visibility.specs.Told.{changed_told}
+use Rattle.visibility.specs.declared.change.Change.{Change}
 use Rattle.visibility.specs.declared.change.Changed.{Changed}
-use Rattle.mapfile.specs.Reads.{HoldsReader, Took}
+use Rattle.limits.specs.Refusals.{number}
+use Rattle.limits.specs.declared.refusal.Refusal.{Refusal}
+use Rattle.mapfile.specs.Reads.{HoldsReader, Took, refused_as}
 use Rattle.mapfile.specs.Moves.{moved_on}
 use Rattle.mapfile.specs.declared.state.Reader.{Reader}
 use Rattle.mapfile.specs.declared.state.Reading.{Reading}
-use Rattle.mapfile.proofs.TakeLaws.{holds_at, not_zero, took_more, took_refused}
+use Rattle.limits.proofs.RefusalLaws.{number_some}
+use Rattle.mapfile.proofs.ErrLaws.{number_suc}
+use Rattle.mapfile.proofs.TakeLaws.{holds_at, took_more, took_refused}
 
 -- ---- the numbers of good entries are those entries
 full_is : (n : ℕ) → n ≤ 1 → is_full (pos n) ≡ eqb n 1
@@ -83,29 +89,29 @@ stepped : (o : map.Op) (M : map.Map) → refusal o M ≡ 0 → step o M ≡ map.
 unfolding refusal step
 stepped o M z = ap (λ (n : ℕ). unless n (map.next o M) M) z
 
-module _ (r : Reader) (v : List ℕ) (used : ℕ) (b : List ℤ) (t : Tables) (u : Lent) (g : Changed) (w : Changing r.map b (lending t) u g) (whole : ragged b ≡ false) (is : entries b ≡ model.entries (length v / entry_bytes) v) where
+module _ (r : Reader) (v : List ℕ) (used : ℕ) (b : List ℤ) (t : Tables) (u : Lent) (whole : ragged b ≡ false) (is : entries b ≡ model.entries (length v / entry_bytes) v) where
   o : map.Op
   o = map.batch (model.entries (length v / entry_bytes) v)
 
-  number : (R : model.Reader) → short (needs t) ≡ false → HoldsReader r t R → R.expected ≡ model.batches → g.refusal ≡ refusal o R.map
+  asked : (g : Changed) → Changing r.map b (lending t) u g → (R : model.Reader) → short (needs t) ≡ false → HoldsReader r t R → R.expected ≡ model.batches → g.refusal ≡ refusal o R.map
   unfolding o
-  number R s h x =
+  asked g w R s h x =
       w.refusal whole R.map (holds_at model.batches r t R h x) ∙ enough (lent_needs (lending t)) (lending_short t ∙ s) (entries b) R.map
       ∙ ap (λ (l : List map.Entry). refusal (map.batch l) R.map) is
 
-  pub batch_refused : (g.refusal ≡ 0 → ⊥) → Took model.batches take_batch r v used t u.tables (Reading.Refused g.refusal r.field)
+  pub batch_refused : (n : Refusal) → Changing r.map b (lending t) u (changed_told (Err n)) → Took model.batches take_batch r v used t u.tables (refused_as n r)
   unfolding take_batch o
-  batch_refused f =
-      took_refused model.batches take_batch r v used t u.tables g.refusal (not_zero g.refusal f (λ k z. ap (λ (l : Lent). l.tables) (w.refused k z).0))
-      (λ R s h x rest. rw (← number R s h x, ne_eqb g.refusal 0 f) refl)
+  batch_refused n w =
+      took_refused model.batches take_batch r v used t u.tables n (let p = number_suc n in ap (λ (l : Lent). l.tables) (w.refused p.0 p.1).0)
+      (λ R s h x rest. rw (← asked (changed_told (Err n)) w R s h x, ne_eqb (number n) 0 (number_some n)) refl)
 
-  pub batch_taken : g.refusal ≡ 0 → (n : Reader) → n ≡ moved_on r Expected.Batches r.size g.map → Took model.batches take_batch r v used t u.tables (Reading.More n used)
+  pub batch_taken : (g : Change) → Changing r.map b (lending t) u (changed_told (Ok g)) → (n : Reader) → n ≡ moved_on r Expected.Batches r.size g.map → Took model.batches take_batch r v used t u.tables (Ok (Reading.More n used))
   unfolding take_batch o
-  batch_taken z n p =
+  batch_taken g w n p =
       rw p (took_more model.batches take_batch r v used t u.tables Expected.Batches r.size g.map
       (λ R s h x rest.
-      let k : refusal o R.map ≡ 0 = sym (number R s h x) ∙ z in
-      let d = w.done R.map (holds_at model.batches r t R h x) z in
+      let k : refusal o R.map ≡ 0 = sym (asked (changed_told (Ok g)) w R s h x) in
+      let d = w.done R.map (holds_at model.batches r t R h x) refl in
       record {
         map = step o R.map;
         is = rw (k, h.size) refl;

@@ -1,5 +1,5 @@
 -- Any two outcomes that the contract of a field or of a file permits are equal. Assumes nothing.
-use Rattle.std.proofs.Common.{◌≡◌, ℕ, suc, ◌^◌, ◌<◌, ◌≤◌, Bool, true, false, ◌⊎◌, List, length, drop, sym, refl, ap, ◌∙◌, subst, inl, inr, arith, length-drop}
+use Rattle.std.proofs.Common.{◌≡◌, ℕ, suc, ◌^◌, ◌<◌, ◌≤◌, Bool, true, false, ◌⊎◌, List, length, drop, sym, refl, ap, ◌∙◌, subst, inl, inr, arith, length-drop, Result, Ok, Err}
 use Rattle.mapfile.specs.Fields.{expected_of}
 use Rattle.mapfile.specs.declared.head.Expected.{Expected}
 use Rattle.model.specs.Map as map
@@ -9,8 +9,12 @@ use Rattle.visibility.proofs.Determinate.{holds_one}
 use Rattle.held.specs.Holds.{Holds, Tables, needs}
 use Rattle.held.specs.declared.map.Map.{Map}
 use Rattle.mapfile.specs.Files.{FileRead, OpensAs}
+use Rattle.mapfile.specs.Told.{opened_told}
 use Rattle.mapfile.specs.declared.file.Opened.{Opened}
 use Rattle.mapfile.specs.Reads.{FieldRead, HoldsMap, HoldsReader, Left, LeftAt, Says}
+use Rattle.limits.proofs.RefusalLaws.{number_one, number_some}
+use Rattle.limits.specs.Refusals.{number}
+use Rattle.mapfile.specs.declared.state.FileRefusal.{FileRefusal}
 use Rattle.mapfile.specs.declared.state.Reader.{Reader}
 use Rattle.mapfile.specs.declared.state.Reading.{Reading}
 
@@ -57,10 +61,13 @@ tables_one Expected.Radius m n t t₁ t₂ R x y k l = k ∙ sym l
 tables_one Expected.Batches m n t t₁ t₂ R x y k l = holds_one m n R.map t t₁ t₂ x y k l
 tables_one Expected.End m n t t₁ t₂ R x y k l = k ∙ sym l
 
+same_refusal : (e f : FileRefusal) → e.refusal ≡ f.refusal → e.field ≡ f.field → e ≡ f
+same_refusal e f a b = rw (a, b) refl
+
 -- ---- answers that say the same of one reading
 module _ (w : List ℕ) (t t₁ t₂ : Tables) (s : model.Reading) where
-  more_one : (r q : Reader) (u v : ℕ) → u ≤ length w → v ≤ length w → Says (Reading.More r u) w t₁ s → Says (Reading.More q v) w t₂ s → LeftAt r.expected t t₁ → LeftAt q.expected t t₂
-      → (Reading.More r u ≡ Reading.More q v) × (t₁ ≡ t₂)
+  more_one : (r q : Reader) (u v : ℕ) → u ≤ length w → v ≤ length w → Says (Ok (Reading.More r u)) w t₁ s → Says (Ok (Reading.More q v)) w t₂ s → LeftAt r.expected t t₁ → LeftAt q.expected t t₂
+      → (◌≡◌ {A = Result Reading FileRefusal} (Ok (Reading.More r u)) (Ok (Reading.More q v))) × (t₁ ≡ t₂)
   more_one r q u v i j x y k l =
       let a = x.1 in
       let b = y.1 in
@@ -75,7 +82,7 @@ module _ (w : List ℕ) (t t₁ t₂ : Tables) (s : model.Reading) where
       let o = reader_one r q t₁ t₂ R x.2 z in
       let c = x.2.expected in
       let m = expected_one r q t₁ t₂ R x.2 z in (
-        ap (λ (p : Reader). Reading.More p u) o ∙ ap (Reading.More q) n,
+        ap (λ (p : Reader). Ok (Reading.More p u)) o ∙ ap (λ (k : ℕ). Ok (Reading.More q k)) n,
         tables_one r.expected r.map q.map t t₁ t₂ R
             (subst (λ (E : model.Expected). HoldsMap E r.map t₁ R) (sym c) x.2.holds)
             (subst (λ (E : model.Expected). HoldsMap E q.map t₂ R) (sym c) z.holds)
@@ -86,30 +93,30 @@ module _ (w : List ℕ) (t t₁ t₂ : Tables) (s : model.Reading) where
   apart : ◌≡◌ {A = ℕ} 0 1 → ⊥
   apart e = omega arith
 
-  says_one : (a b : Reading) → Says a w t₁ s → Says b w t₂ s → Left a t t₁ → Left b t t₂ → ((r : Reader) (u : ℕ) → a ≡ Reading.More r u → u ≤ length w) → ((r : Reader) (u : ℕ) → b ≡ Reading.More r u → u ≤ length w)
+  says_one : (a b : Result Reading FileRefusal) → Says a w t₁ s → Says b w t₂ s → Left a t t₁ → Left b t t₂ → ((r : Reader) (u : ℕ) → a ≡ Ok (Reading.More r u) → u ≤ length w) → ((r : Reader) (u : ℕ) → b ≡ Ok (Reading.More r u) → u ≤ length w)
       → (a ≡ b) × (t₁ ≡ t₂)
-  says_one (Reading.More r u) (Reading.More q v) x y k l i j = more_one r q u v (i r u refl) (j q v refl) x y k l
-  says_one (Reading.More r u) (Reading.Refused n f) x y k l i j = let a = x.1 in absurd (apart (cc))
-  says_one (Reading.More r u) (Reading.Done m) x y k l i j = let a = x.1 in let b = y.1 in absurd (apart (cc))
-  says_one (Reading.Refused n f) (Reading.More r u) x y k l i j = let b = y.1 in absurd (apart (cc))
-  says_one (Reading.Refused n f) (Reading.Refused o g) x y k l i j =
-      let p : n ≡ o = cc in
-      let q : f ≡ g = cc in
-      (rw (p, q) refl, k ∙ sym l)
-  says_one (Reading.Refused n f) (Reading.Done m) x y k l i j = let b = y.1 in absurd (apart (cc))
-  says_one (Reading.Done m) (Reading.More r u) x y k l i j = let a = x.1 in let b = y.1 in absurd (apart (cc))
-  says_one (Reading.Done m) (Reading.Refused n f) x y k l i j = let a = x.1 in absurd (apart (cc))
-  says_one (Reading.Done m) (Reading.Done n) x y k l i j =
+  says_one (Ok (Reading.More r u)) (Ok (Reading.More q v)) x y k l i j = more_one r q u v (i r u refl) (j q v refl) x y k l
+  says_one (Ok (Reading.More r u)) (Err f) x y k l i j = let a = x.1 in absurd (apart (cc))
+  says_one (Ok (Reading.More r u)) (Ok (Reading.Done m)) x y k l i j = let a = x.1 in let b = y.1 in absurd (apart (cc))
+  says_one (Err e) (Ok (Reading.More r u)) x y k l i j = let b = y.1 in absurd (apart (cc))
+  says_one (Err e) (Err f) x y k l i j =
+      let p : number e.refusal ≡ number f.refusal = cc in
+      let q : e.field ≡ f.field = cc in
+      (ap Err (same_refusal e f (number_one e.refusal f.refusal p) q), k ∙ sym l)
+  says_one (Err e) (Ok (Reading.Done m)) x y k l i j = let b = y.1 in absurd (apart (cc))
+  says_one (Ok (Reading.Done m)) (Ok (Reading.More r u)) x y k l i j = let a = x.1 in let b = y.1 in absurd (apart (cc))
+  says_one (Ok (Reading.Done m)) (Err f) x y k l i j = let a = x.1 in absurd (apart (cc))
+  says_one (Ok (Reading.Done m)) (Ok (Reading.Done n)) x y k l i j =
       let a = x.1 in
       let b = y.1 in
       let e : x.0 ≡ y.0 = cc in
-      (ap Reading.Done (map_one m n t₁ t₂ x.0 x.2 (subst (λ (M : map.Map). Holds n t₂ M) (sym e) y.2)), k ∙ sym l)
+      (ap (λ (o : Map). Ok (Reading.Done o)) (map_one m n t₁ t₂ x.0 x.2 (subst (λ (M : map.Map). Holds n t₂ M) (sym e) y.2)), k ∙ sym l)
 
 -- ---- the call, of tables that are short or of a reader that is held and whose field has a number after it
 abbrev pub Told : Reader → Tables → Type 0
 Told r t = (short (needs t) ≡ true) ⊎ ((R : model.Reader) × HoldsReader r t R × (suc R.field < 2 ^ 64))
 
-module _ (r : Reader) (w : List ℕ) (t t₁ t₂ : Tables) (a b : Reading) (x : FieldRead r w t t₁ a) (y : FieldRead r w t t₂ b) where
+module _ (r : Reader) (w : List ℕ) (t t₁ t₂ : Tables) (a b : Result Reading FileRefusal) (x : FieldRead r w t t₁ a) (y : FieldRead r w t t₂ b) where
   short_one : short (needs t) ≡ true → (a ≡ b) × (t₁ ≡ t₂)
   short_one s = ((x.lacking s).0 ∙ sym (y.lacking s).0, (x.lacking s).1 ∙ sym (y.lacking s).1)
 
@@ -141,3 +148,19 @@ module _ (b : List ℕ) (t t₁ t₂ : Tables) (r q : Opened) (x : FileRead b t 
 
   pub file_one : (r ≡ q) × (t₁ ≡ t₂)
   file_one = go (short (needs t)) refl
+
+-- ---- what C gets of an answer is all of it
+abbrev refused_by : Opened → ℕ
+refused_by o = o.refusal
+
+abbrev at_field : Opened → ℕ
+at_field o = o.field
+
+abbrev map_of : Opened → Map
+map_of o = o.map
+
+pub opened_told_one : (r q : Result Map FileRefusal) → opened_told r ≡ opened_told q → r ≡ q
+opened_told_one (Ok a) (Ok b) e = ap (λ (x : Map). Ok x) (ap map_of e)
+opened_told_one (Ok a) (Err f) e = absurd (number_some f.refusal (sym (ap refused_by e)))
+opened_told_one (Err d) (Ok b) e = absurd (number_some d.refusal (ap refused_by e))
+opened_told_one (Err d) (Err f) e = ap (λ (x : FileRefusal). Err x) (same_refusal d f (number_one d.refusal f.refusal (ap refused_by e)) (ap at_field e))

@@ -2,6 +2,7 @@
 pub mod BatchLaws
 pub mod ByteLaws
 pub mod Determinate
+pub mod ErrLaws
 pub mod FeedLaws
 pub mod FieldLaws
 pub mod FileLaws

@@ -1,5 +1,5 @@
 -- A field's value taken: what each answer needs; the cell size; FF. Assumes nothing.
-use Rattle.std.proofs.Common.{◌≡◌, ℕ, zero, suc, ◌+◌, ◌%◌, ◌^◌, ◌<◌, ◌≤◌, Bool, true, false, cond, List, length, take, drop, sym, refl, ap, ◌∙◌, subst, arith, take_all}
+use Rattle.std.proofs.Common.{◌≡◌, ℕ, zero, suc, ◌+◌, ◌%◌, ◌^◌, ◌<◌, ◌≤◌, Bool, true, false, cond, List, length, take, drop, sym, refl, ap, ◌∙◌, subst, arith, Result, Ok, Err}
 use lib.Ieee.{Float}
 use Rattle.mapfile.specs.Fields.{expected_of}
 use Rattle.mapfile.specs.declared.head.Expected.{Expected}
@@ -9,19 +9,17 @@ use Rattle.model.specs.MapFile.{float64, take_end, take_size}
 use Rattle.model.specs.Refusal.{bad_size, nothing, short}
 use Rattle.held.specs.Holds.{Tables, needs}
 use Rattle.held.specs.declared.map.Map.{Map}
-use Rattle.mapfile.specs.Reads.{HoldsMap, HoldsReader, LeftAt, Took, size_taken}
+use Rattle.mapfile.specs.Reads.{HoldsMap, HoldsReader, LeftAt, Took, refused_as, size_taken}
 use Rattle.mapfile.specs.Moves.{moved_on}
+use Rattle.limits.specs.Refusals.{number}
+use Rattle.limits.specs.declared.refusal.Refusal.{Refusal}
+use Rattle.mapfile.specs.declared.state.FileRefusal.{FileRefusal}
 use Rattle.mapfile.specs.declared.state.Reader.{Reader}
 use Rattle.mapfile.specs.declared.state.Reading.{Reading}
 
 -- ---- answers are told apart
-pub no_more : (n f u : ℕ) (r : Reader) → Reading.Refused n f ≡ Reading.More r u → ⊥
-no_more n f u r e = let z : ◌≡◌ {A = ℕ} 0 1 = cc in omega arith
-
--- a number that is not 0 is one more than some other
-pub not_zero : {A : Type 0} (n : ℕ) → (n ≡ 0 → ⊥) → ((k : ℕ) → n ≡ suc k → A) → A
-not_zero zero h f = absurd (h refl)
-not_zero (suc k) h f = f k refl
+pub no_more : {x : FileRefusal} {u : ℕ} {r : Reader} → ◌≡◌ {A = Result Reading FileRefusal} (Err x) (Ok (Reading.More r u)) → ⊥
+no_more e = let z : ◌≡◌ {A = ℕ} 0 1 = cc in omega arith
 
 -- what is known of the map where e is expected
 pub holds_at : (e : model.Expected) (r : Reader) (t : Tables) (R : model.Reader) → HoldsReader r t R → R.expected ≡ e → HoldsMap e r.map t R
@@ -35,20 +33,20 @@ pub record Goes (takes : model.Reader → List ℕ → List ℕ → model.Readin
   pub left : LeftAt e t t'
 
 module _ (e : model.Expected) (takes : model.Reader → List ℕ → List ℕ → model.Reading) (r : Reader) (v : List ℕ) (used : ℕ) (t t' : Tables) where
-  pub took_refused : (n : ℕ) → t' ≡ t → ((R : model.Reader) → short (needs t) ≡ false → HoldsReader r t R → R.expected ≡ e → (rest : List ℕ) → takes R v rest ≡ model.refused n R.field)
-      → Took e takes r v used t t' (Reading.Refused n r.field)
+  pub took_refused : (n : Refusal) → t' ≡ t → ((R : model.Reader) → short (needs t) ≡ false → HoldsReader r t R → R.expected ≡ e → (rest : List ℕ) → takes R v rest ≡ model.refused (number n) R.field)
+      → Took e takes r v used t t' (refused_as n r)
   took_refused n q f =
       record {
-        refused = λ k g x. q;
-        within = λ r' k x. absurd (no_more n r.field k r' x);
-        reads = λ s R h x l b. (f R s h x (drop used b) ∙ ap (model.refused n) (sym h.field), q);
+        refused = λ x y. q;
+        within = λ r' k x. absurd (no_more x);
+        reads = λ s R h x l b. (f R s h x (drop used b) ∙ ap (model.refused (number n)) (sym h.field), q);
       }
 
   pub took_more : (ex : Expected) (c : Float) (m : Map) → ((R : model.Reader) → short (needs t) ≡ false → HoldsReader r t R → R.expected ≡ e → (rest : List ℕ) → Goes takes v t t' R rest ex c m)
-      → Took e takes r v used t t' (Reading.More (moved_on r ex c m) used)
+      → Took e takes r v used t t' (Ok (Reading.More (moved_on r ex c m) used))
   took_more ex c m f =
       record {
-        refused = λ k g x. absurd (no_more k g used (moved_on r ex c m) (sym x));
+        refused = λ x y. absurd (no_more (sym y));
         within = λ r' k x. cc;
         reads = λ s R h x l b.
             let g = f R s h x (drop used b) in
@@ -60,25 +58,18 @@ module _ (e : model.Expected) (takes : model.Reader → List ℕ → List ℕ �
 
 -- ---- field 01
 module _ (r : Reader) (v : List ℕ) (used : ℕ) where
-  module _ (c : Float) (z : Bool) (p : c ≡ float64 (take 8 v)) (q : z ≡ bad_size c) where
-    pub size_refused : z ≡ true → Reading.Refused 1 r.field ≡ size_taken r v used
-    size_refused k = rw (← p, ← q, k) refl
-
-    pub size_taken_lem : z ≡ false → (n : Reader) → n ≡ moved_on r Expected.Radius c r.map → Reading.More n used ≡ size_taken r v used
-    size_taken_lem k n e = rw (← p, ← q, k, e) refl
-
-  pub took_size : (t : Tables) → length v ≡ 8 → Took model.size take_size r v used t t (size_taken r v used)
+  pub took_size : (t : Tables) → Took model.size take_size r v used t t (size_taken r v used)
   unfolding take_size
-  took_size t l = let k : length v ≤ 8 = omega arith in rw (take_all 8 v k) (go (bad_size (float64 v)) refl)
+  took_size t = go (bad_size (float64 v)) refl
     where
-      go : (z : Bool) → bad_size (float64 v) ≡ z → Took model.size take_size r v used t t (cond z (Reading.Refused 1 r.field) (Reading.More (moved_on r Expected.Radius (float64 v) r.map) used))
-      go true h = took_refused model.size take_size r v used t t 1 refl (λ R s g x rest. rw h refl)
+      go : (z : Bool) → bad_size (float64 v) ≡ z → Took model.size take_size r v used t t (cond z (refused_as Refusal.CellSize r) (Ok (Reading.More (moved_on r Expected.Radius (float64 v) r.map) used)))
+      go true h = took_refused model.size take_size r v used t t Refusal.CellSize refl (λ R s g x rest. rw h refl)
       go false h =
           took_more model.size take_size r v used t t Expected.Radius (float64 v) r.map
           (λ R s g x rest. record { map = nothing; is = rw h refl; holds = (holds_at model.size r t R g x, h); left = refl })
 
   -- ---- FF
-  pub took_end : (t : Tables) (n : Reader) → n ≡ moved_on r Expected.End r.size r.map → Took model.batches (λ R w rest. take_end R rest) r v used t t (Reading.More n used)
+  pub took_end : (t : Tables) (n : Reader) → n ≡ moved_on r Expected.End r.size r.map → Took model.batches (λ R w rest. take_end R rest) r v used t t (Ok (Reading.More n used))
   took_end t n e =
       rw e
       (took_more model.batches (λ R w rest. take_end R rest) r v used t t Expected.End r.size r.map

@@ -1,5 +1,7 @@
 -- Between functions: a field of a map file before its value is taken, and its value as numbers (RULES 5; the model's MapFile). Definitions only.
-use Rattle.std.specs.Prelude.{◌≡◌, ℕ, zero, suc, ◌+◌, ◌*◌, ◌/◌, ◌<◌, ◌≤◌, cond, List, [], ◌∷◌, ◌++◌, length, take, drop, ℤ, pos, ◌==◌, nat_lt, slice_index}
+use Rattle.std.specs.Prelude.{◌≡◌, ℕ, zero, suc, ◌+◌, ◌*◌, ◌/◌, ◌<◌, ◌≤◌, cond, List, [], ◌∷◌, ◌++◌, length, take, drop, ℤ, pos, nat_lt, slice_index, Result, Ok, Err}
+use Rattle.limits.specs.Refusals.{number}
+use Rattle.limits.specs.declared.refusal.Refusal.{Refusal}
 use Rattle.model.specs.MapFile.{due, entry_bytes, int32, placed}
 use Rattle.model.specs.MapFile as model
 use Rattle.mapfile.specs.declared.head.Expected.{Expected}
@@ -22,9 +24,10 @@ due_at e b =
     let k = due (slice_index b 0) (length_at b) (drop 3 b) in
     cond (nat_lt (length b) 3) 10 (cond (placed e (slice_index b 0)) k 10)
 
--- a refused field's head is zero but for the number
-abbrev pub head_of : model.Expected → List ℕ → Head
-head_of e b = let k = due_at e b in cond (k == 0) (record { due = 0; tag = slice_index b 0; length = length_at b }) (record { due = k; tag = 0; length = 0 })
+-- the head with which b begins, where nothing is due, or what is
+abbrev pub HeadRead : model.Expected → List ℕ → Result Head Refusal → Type 0
+HeadRead e b (Ok h) = (due_at e b ≡ 0) × (h ≡ record { tag = slice_index b 0; length = length_at b })
+HeadRead e b (Err x) = due_at e b ≡ number x
 
 -- ---- the value of a field 03 as the library takes a batch
 unfoldable pub numbers_of : ℕ → List ℕ → List ℤ

@@ -1,5 +1,5 @@
 -- A whole map file, read into a map's lent tables (RULES 5; the model's `read_file`). Definitions only.
-use Rattle.std.specs.Prelude.{◌≡◌, ℕ, zero, suc, true, false, List, Float}
+use Rattle.std.specs.Prelude.{◌≡◌, ℕ, true, false, List, Float}
 use Rattle.model.specs.Map as model
 use Rattle.model.specs.MapFile.{Reading, done, more, read_file, refused}
 use Rattle.model.specs.Refusal.{opened, run, short}
@@ -24,8 +24,3 @@ pub record FileRead (b : List ℕ) (t t' : Tables) (r : Opened) : Type 0 where
 -- a map that some run of operations from an opening gives: what `demand3` says of every run holds of it
 abbrev pub Ran : model.Map → Type 0
 Ran M = (c : Float) × (r : Float) × (os : List model.Op) × (M ≡ run os (opened c r))
-
--- ---- between functions: the file was read to its end into the tables t, by the number n that was answered
-abbrev pub EndedAs : ℕ → Opened → Tables → Reading → Type 0
-EndedAs zero r t s = (M : model.Map) × (s ≡ done M) × (r.field ≡ 0) × Holds r.map t M
-EndedAs (suc n) r t s = (s ≡ refused (suc n) r.field) × (r ≡ refused_at (suc n) r.field)

@@ -4,4 +4,5 @@ pub mod Fields
 pub mod Files
 pub mod Moves
 pub mod Reads
+pub mod Told
 pub mod Windows

@@ -4,6 +4,7 @@ ghost use Rattle.mapfile.specs.Moves.{begun, moved_on};
 
 use crate::head::Expected;
 use held::map::Map;
+use limits::refusal::Refusal;
 
 // What is expected, the number of the field that is expected, and what was read: the cell size, and the map once it is open.
 #[derive(Clone, Copy)]
@@ -14,12 +15,18 @@ pub struct Reader {
     pub map: Map,
 }
 
-// The field was taken, with so many bytes, and the reading goes on; a refusal's number and the field's; or the file has ended, and this is its map.
+// The field was taken, with so many bytes, and the reading goes on; or the file has ended, and this is its map.
 #[derive(Clone, Copy)]
 pub enum Reading {
     More(Reader, usize),
-    Refused(u8, u64),
     Done(Map),
+}
+
+// A file is refused, and at which field.
+#[derive(Clone, Copy, Debug, PartialEq, Eq)]
+pub struct FileRefusal {
+    pub refusal: Refusal,
+    pub field: u64,
 }
 
 // Before the first field.
@@ -30,23 +37,20 @@ pub fn begin() -> Reader
         expected: Expected::Size,
         field: 0,
         size: 0.0,
-        map: Map {
-            size: 0.0,
-            radius: 0.0,
-            cells: 0,
-            points: 0,
-        },
+        map: Map::none(),
     }
 }
 
-// On to the next field. There are fewer fields than 2^64 in any file.
-pub(crate) fn onward(reader: Reader, expected: Expected, size: f64, map: Map) -> Reader
-    ensures { result ≡ moved_on reader expected size map }
-{
-    Reader {
-        expected,
-        field: std::num::wrapping_add_u64(reader.field, 1),
-        size,
-        map,
+impl Reader {
+    // On to the next field. There are fewer fields than 2^64 in any file.
+    pub(crate) fn onward(self, expected: Expected, size: f64, map: Map) -> Reader
+        ensures { result ≡ moved_on self expected size map }
+    {
+        Reader {
+            expected,
+            field: self.field.wrapping_add(1),
+            size,
+            map,
+        }
     }
 }

@@ -79,9 +79,6 @@ pub record Begun (points statuses candidates m m' : List ℕ) (i : ℕ) : Type 0
   pub long : length m' ≡ length m
   pub is : Whole points statuses candidates m m' i
 
-pub begun_none : (points statuses candidates m : List ℕ) → length candidates ≡ length m → Begun points statuses candidates m m 0
-begun_none points statuses candidates m h = record { few = omega arith; room = h; long = refl; is = λ ps e f a. refl }
-
 module _ (points statuses candidates m m' : List ℕ) (i : ℕ) (b : Begun points statuses candidates m m' i) where
   pub begun_more : i < length candidates → (v : ℕ) → ((ps : Points) → points ≡ keys ps → statuses ≡ statuses_of ps → Asc 0 ps → v ≡ word (begun ps (get_or candidates i 0))) → Begun points statuses candidates m (set m' i v) (i + 1)
   begun_more h v w = record { few = omega arith; room = b.room; long = length-set m' i v ∙ b.long; is = after }

@@ -1,9 +1,9 @@
 -- The keys that have a status in the end: counted, and listed one after another. Assumes nothing.
-use Rattle.std.proofs.Common.{◌≡◌, ℕ, ◌+◌, ◌%◌, ◌<◌, ◌≤◌, Bool, true, false, cond, not, eqb, ◌⊎◌, List, [], ◌∷◌, ◌++◌, length, get_or, take, drop, set, sym, refl, ap, ◌∙◌, subst, ⊎_elim, append-nil, add-one, arith, length-append, length-set, take-append-drop, take_all, take-suc, eq-eqb, ne_eqb}
+use Rattle.std.proofs.Common.{◌≡◌, ℕ, suc, ◌+◌, ◌%◌, ◌<◌, ◌≤◌, Bool, true, false, cond, not, eqb, ◌⊎◌, List, [], ◌∷◌, ◌++◌, length, get_or, take, drop, set, sym, refl, ap, ◌∙◌, subst, ⊎_elim, append-nil, add-one, arith, length-append, length-set, take-append-drop, take-suc, eq-eqb, ne_eqb}
+use Rattle.std.specs.List.{filter}
 use Rattle.corner.specs.Added.{Added}
-use Rattle.corner.proofs.AddedLaws.{added_listed, added_none, added_one, added_then}
+use Rattle.corner.proofs.AddedLaws.{added_none, added_one, added_then}
 use Rattle.model.specs.Corner.{any_bit}
-use Rattle.table.specs.Listed.{Listed}
 use Rattle.marks.specs.Marked.{ending}
 use Rattle.marks.specs.Standing.{Standing, word, words}
 use Rattle.marks.proofs.MoodLaws.{word_any}
@@ -42,42 +42,26 @@ module _ (f : ℕ → Standing) (K moods : List ℕ) (e : moods ≡ words f K) (
       let a : any_bit (f (get_or K i 0)).bits ≡ false = sym (word_any (f (get_or K i 0))) ∙ ap (λ (w : ℕ). not (eqb (w % 16) 0)) (sym told) ∙ ap not (eq-eqb (get_or moods i 0 % 16) 0 t) in
       next ∙ rw a (append-nil (ending f (take i K)))
 
--- all are looked at
-ending_all : (f : ℕ → Standing) (K moods : List ℕ) (i : ℕ) → moods ≡ words f K → length moods ≤ i → ending f (take i K) ≡ ending f K
-ending_all f K moods i e h = let l : length moods ≡ length K = ap length e ∙ words_length f K in ap (ending f) (take_all i K (omega arith))
-
 ending_part : (f : ℕ → Standing) (K : List ℕ) (i : ℕ) → length (ending f (take i K)) ≤ length (ending f K)
 ending_part f K i =
     let e : length (ending f K) ≡ length (ending f (take i K)) + length (ending f (drop i K)) =
     ap (λ (l : List ℕ). length (ending f l)) (sym (take-append-drop i K)) ∙ ap length (ending_append f (take i K) (drop i K)) ∙ length-append (ending f (take i K)) (ending f (drop i K)) in
     omega arith
 
--- ---- counted: i words are looked at
-pub record Counted (moods : List ℕ) (n i : ℕ) : Type 0 where
-  pub few : i ≤ length moods
-  pub up : n ≤ i
-  pub is : (f : ℕ → Standing) (K : List ℕ) → moods ≡ words f K → n ≡ length (ending f (take i K))
+-- ---- counted
+-- whether a word has a status
+abbrev pub has_status : ℕ → Bool
+has_status v = not (eqb (v % 16) 0)
 
-pub counted_none : (moods : List ℕ) → Counted moods 0 0
-unfolding ending
-counted_none moods = record { few = omega arith; up = omega arith; is = λ f K e. refl }
-
-module _ (moods : List ℕ) (n i : ℕ) (c : Counted moods n i) where
-  pub counted_more : i < length moods → (get_or moods i 0 % 16 ≡ 0 → ⊥) → Counted moods (n + 1) (i + 1)
-  counted_more h t = record {
-    few = omega arith;
-    up = omega (arith, c.up);
-    is = λ f K e.
-        let z : length (ending f (take (i + 1) K)) ≡ length (ending f (take i K)) + 1 =
-        ap length (ending_more f K moods e i h t) ∙ length-append (ending f (take i K)) ((get_or K i 0, get_or moods i 0) ∷ []) in
-        omega (arith, c.is f K e);
-  }
-
-  pub counted_pass : i < length moods → get_or moods i 0 % 16 ≡ 0 → Counted moods n (i + 1)
-  counted_pass h t = record { few = omega arith; up = omega (arith, c.up); is = λ f K e. c.is f K e ∙ ap length (sym (ending_pass f K moods e i h t)) }
-
-  pub counted_done : length moods ≤ i → (f : ℕ → Standing) (K : List ℕ) → moods ≡ words f K → n ≡ length (ending f K)
-  counted_done h f K e = c.is f K e ∙ ap length (ending_all f K moods i e h)
+pub ending_count : (f : ℕ → Standing) (K : List ℕ) → length (filter has_status (words f K)) ≡ length (ending f K)
+unfolding words ending
+ending_count f [] = refl
+ending_count f (k ∷ l) = rw (word_any (f k)) (go (any_bit (f k).bits) (ending_count f l))
+  where
+    go : (b : Bool) → length (filter has_status (words f l)) ≡ length (ending f l)
+        → length (cond b (word (f k) ∷ filter has_status (words f l)) (filter has_status (words f l))) ≡ length (cond b ((k, word (f k)) ∷ ending f l) (ending f l))
+    go true e = ap suc e
+    go false e = e
 
 -- ---- listed: i keys are looked at
 abbrev Sofar : List ℕ → List ℕ → List ℕ → List ℕ → List ℕ → List ℕ → ℕ → ℕ → Type 0
@@ -130,6 +114,3 @@ module _ (candidates moods a a' b b' : List ℕ) (n i : ℕ) (p : Picked candida
     numbers = p.numbers;
     is = λ f e ra rb. let r = room h t f e ra rb in absurd (⊎_elim (λ y. omega (arith, p.cells)) (λ y. omega (arith, p.numbers)) x);
   }
-
-  pub picked_done : length candidates ≡ length moods → length candidates ≤ i → (f : ℕ → Standing) → moods ≡ words f candidates → length (ending f candidates) ≤ length a → length (ending f candidates) ≤ length b → Listed (ending f candidates) a a' b b' n
-  picked_done l h f e ra rb = added_listed (ending f candidates) a a' b b' n (subst (λ (l : List (ℕ × ℕ)). Added l a a' b b' 0 n) (ending_all f candidates moods i e (omega arith)) (p.is f e ra rb))

@@ -1,34 +1,19 @@
 -- The candidates, put into a table one after another. Assumes nothing.
-use Rattle.std.proofs.Common.{◌≡◌, ℕ, ◌+◌, ◌*◌, ◌%◌, ◌^◌, ◌<◌, ◌≤◌, Bool, true, false, cond, List, [], ◌∷◌, length, get_or, take, sym, refl, ap, ◌∙◌, arith, length-take-le, take_all}
+use Rattle.std.proofs.Common.{◌≡◌, ℕ, ◌+◌, ◌<◌, ◌≤◌, Bool, true, false, cond, List, [], ◌∷◌, length, get_or, take, sym, refl, ap, ◌∙◌, arith, length-take-le, take_all}
 use Rattle.corner.specs.Changes.{numbered}
-use Rattle.model.specs.Cell.{SW, SE, NW, NE, W, move}
+use Rattle.model.specs.Cell.{move}
 use Rattle.model.specs.ClosedForm.{stand}
 use Rattle.model.specs.Corner.{Bits, bit, number}
 use Rattle.model.specs.Layer.{Mark, marks, marks_of}
-use Rattle.model.specs.Limits.{max_shift}
 use Rattle.model.specs.Maps.{add, keys}
 use Rattle.table.specs.Listed.{values}
 use Rattle.table.specs.Tables.{All, Changed, Table, added}
 use Rattle.table.proofs.AllLaws.{all_at}
-use Rattle.table.proofs.ListedLaws.{keys_length}
+use Rattle.table.proofs.ListedLaws.{keys_length, values_length}
 use Rattle.table.proofs.TableLaws.{added_room, changed_keys, insert_room, insert_table}
-use Rattle.marks.specs.Marked.{Bordered, Gathers, candidate_room, dir_at, max_candidates}
+use Rattle.marks.specs.Marked.{Bordered, Gathers, candidate_room, max_candidates}
 use Rattle.model.proofs.StandLaws.{stand_append}
-use Rattle.marks.proofs.StandLaws.{add_few, cell_at, keys_at, mark_at, marks_more, marks_next, numbers_at, stand_one, stand_part}
-
--- ---- the four places, by differences that may wrap
-module _ (k s : ℕ) (few : s ≤ max_shift) (b : Bordered k) where
-  pub southwest : (r : ℕ) → (r + (s * W + s)) % 2 ^ 64 ≡ k → r < 2 ^ 64 → r ≡ move s SW k
-  southwest r e f = omega arith
-
-  pub southeast : (a r : ℕ) → a ≡ (k + s * W) % 2 ^ 64 → (r + s) % 2 ^ 64 ≡ a → r < 2 ^ 64 → r ≡ move s SE k
-  southeast a r e d f = omega arith
-
-  pub northwest : (a r : ℕ) → a ≡ (k + s) % 2 ^ 64 → (r + s * W) % 2 ^ 64 ≡ a → r < 2 ^ 64 → r ≡ move s NW k
-  northwest a r e d f = omega arith
-
-  pub northeast : (r : ℕ) → r ≡ (k + (s * W + s)) % 2 ^ 64 → r ≡ move s NE k
-  northeast r e = omega arith
+use Rattle.marks.proofs.StandLaws.{add_few, cell_at, dir_at, keys_at, mark_at, marks_more, marks_next, numbered_length, numbers_at, stand_one, stand_part}
 
 -- ---- the four marks of a cell: d of them are looked at
 abbrev Fours : ℕ → ℕ → Bits → ℕ → List ℕ → List ℕ → ℕ → ℕ → Type 0
@@ -70,13 +55,6 @@ module _ (t t' : List ℕ) (n r d k status s : ℕ) (more : d < 4) (p : Put t t'
           let count : r' ≡ length (add x (take r t')) = (insert_room t' r t'' r' w.0 x c room).1 in
           (insert_table t' r t'' r' w.0 x c, candidates ∙ z ∙ sym (next b e (take n t) ∙ rw o refl), omega (arith, add_few x (take r t'), w.2))
 
-pub put_done : (t t' : List ℕ) (n r d k status s : ℕ) → 4 ≤ d → Put t t' n r d k status s → (b : Bits) → status ≡ number b → Bordered k → Table t n → n + 4 ≤ length t
-    → Table t' r × (take r t' ≡ stand (marks_of s k b) (take n t)) × (r ≤ n + 4)
-put_done t t' n r d k status s h p b e g T room =
-    let w = p.is b e g T room in
-    let z : d ≡ 4 = omega (arith, p.few) in
-    (w.0, w.1 ∙ ap (λ (j : ℕ). stand (take j (marks_of s k b)) (take n t)) z, omega (arith, w.2))
-
 -- ---- all cells: i of them are looked at
 abbrev Whole : List ℕ → List ℕ → List ℕ → List ℕ → ℕ → ℕ → ℕ → ℕ → Type 0
 Whole t t' corners altered n r i s =
@@ -93,35 +71,36 @@ unfolding stand marks
 gathered_none t corners altered n s = record { few = omega arith; long = refl; is = λ changed e f a T h l. (T, refl) }
 
 module _ (t t' corners altered : List ℕ) (n r i s : ℕ) (g : Gathered t t' corners altered n r i s) where
-  pub gathered_more : i < length corners → r ≤ max_candidates → (t'' : List ℕ) (r' : ℕ) → length t'' ≡ length t'
-      → ((b : Bits) → get_or altered i 0 ≡ number b → Bordered (get_or corners i 0) → Table t' r → r + 4 ≤ length t'
-      → Table t'' r' × (take r' t'' ≡ stand (marks_of s (get_or corners i 0) b) (take r t')) × (r' ≤ r + 4))
+  -- the cell k has the status v then
+  pub gathered_more : i < length corners → r ≤ max_candidates → (k v : ℕ) → k ≡ get_or corners i 0 → v ≡ get_or altered i 0 → (t'' : List ℕ) (r' : ℕ) → length t'' ≡ length t'
+      → ((b : Bits) → v ≡ number b → Bordered k → Table t' r → r + 4 ≤ length t' → Table t'' r' × (take r' t'' ≡ stand (marks_of s k b) (take r t')) × (r' ≤ r + 4))
       → Gathered t t'' corners altered n r' (i + 1) s
-  gathered_more more small t'' r' long f = record { few = omega arith; long = long ∙ g.long; is = after }
+  gathered_more more small k v is_key is_status t'' r' long f = record { few = omega arith; long = long ∙ g.long; is = after }
     where
       after : Whole t t'' corners altered n r' (i + 1) s
-      after changed e v a T h l =
-          let w = g.is changed e v a T h l in
+      after changed e u a T h l =
+          let w = g.is changed e u a T h l in
           let lc : length corners ≡ length changed = ap length e ∙ keys_length changed in
           let c = cell_at changed i in
-          let key : get_or corners i 0 ≡ c.0 = ap (λ (m : List ℕ). get_or m i 0) e ∙ keys_at changed i in
-          let num : get_or altered i 0 ≡ number c.1 = ap (λ (m : List ℕ). get_or m i 0) v ∙ numbers_at changed i in
-          let inside : Bordered (get_or corners i 0) = all_at Bordered corners i (rw e a) more in
+          let key : k ≡ c.0 = is_key ∙ ap (λ (m : List ℕ). get_or m i 0) e ∙ keys_at changed i in
+          let num : v ≡ number c.1 = is_status ∙ ap (λ (m : List ℕ). get_or m i 0) u ∙ numbers_at changed i in
+          let inside : Bordered k = rw is_key (all_at Bordered corners i (rw e a) more) in
           let q = f c.1 num inside w.0 (omega (arith, g.long)) in
           let ms = marks s (take i changed) in (
             q.0,
             q.1
-                ∙ ap (λ (m : List ℕ). stand (marks_of s (get_or corners i 0) c.1) m) w.1
+                ∙ ap (λ (m : List ℕ). stand (marks_of s k c.1) m) w.1
                 ∙ ap (λ (j : ℕ). stand (marks_of s j c.1) (stand ms (take n t))) key
                 ∙ sym (ap (λ (m : List Mark). stand m (take n t)) (marks_more s i changed (omega arith)) ∙ stand_append ms (marks_of s c.0 c.1) (take n t)),
           )
 
   -- all are looked at, or there are too many
-  pub gathered_done : (r ≤ max_candidates → length corners ≤ i) → Gathers s corners altered t n t' r
+  pub gathered_done : (length altered ≡ length corners → r ≤ max_candidates → length corners ≤ i) → Gathers s corners altered t n t' r
   gathered_done out changed e v a T h l =
       let w = g.is changed e v a T h l in
-      let lc : length corners ≡ length changed = ap length e ∙ keys_length changed in (
-        λ small. let o = out small in (w.0, w.1 ∙ ap (λ (m : List (ℕ × Bits)). stand (marks s m) (take n t)) (take_all i changed (omega arith))),
+      let lc : length corners ≡ length changed = ap length e ∙ keys_length changed in
+      let la : length altered ≡ length changed = ap length v ∙ values_length (numbered changed) ∙ numbered_length changed in (
+        λ small. let o = out (la ∙ sym lc) small in (w.0, w.1 ∙ ap (λ (m : List (ℕ × Bits)). stand (marks s m) (take n t)) (take_all i changed (omega arith))),
         λ big.
             let lr : length (take r t') ≡ r = length-take-le r t' w.0.room in
             let ls : length (take r t') ≡ length (stand (marks s (take i changed)) (take n t)) = ap length w.1 in

@@ -1,6 +1,5 @@
 -- The word of a key, and what a mark makes of it. Assumes nothing.
 use Rattle.std.proofs.Common.{◌≡◌, ℕ, suc, ◌+◌, ◌*◌, ◌/◌, ◌%◌, ◌<◌, ◌≤◌, Bool, true, false, cond, not, ◌&&◌, eqb, sym, refl, ap, ◌∙◌, ⊎_elim, zero-le, le_refl, add-one, arith, eq-eqb, ne_eqb}
-use borrow.Author.Tests.{not-true, not-false}
 use Rattle.ieee.proofs.Tools.{lt_or_ge}
 use Rattle.model.specs.Cell.{Dir}
 use Rattle.model.specs.ClosedForm.{queues}
@@ -22,8 +21,8 @@ number_small b = omega (arith, cond_le b.sw 1, cond_le b.se 2, cond_le b.nw 4, c
 digit : (m x : ℕ) → cond (eqb (m % 2) 1) x 0 ≡ m % 2 * x
 digit m x =
     ⊎_elim
-    (λ h. let z : m % 2 ≡ 0 = omega arith in rw (ne_eqb (m % 2) 1 (λ e. omega arith), z) (omega arith))
-    (λ h. let z : m % 2 ≡ 1 = omega arith in rw (eq-eqb (m % 2) 1 z, z) (omega arith))
+    (λ (h : m % 2 < 1). let z : m % 2 ≡ 0 = omega arith in rw (ne_eqb (m % 2) 1 (λ e. omega arith), z) (omega arith))
+    (λ (h : 1 ≤ m % 2). let z : m % 2 ≡ 1 = omega arith in rw (eq-eqb (m % 2) 1 z, z) (omega arith))
     (lt_or_ge (m % 2) 1)
 
 -- every number below 16 is a status
@@ -75,11 +74,11 @@ queue_is d k false b = kept_any d b
 
 -- by whether a bit is left
 module _ (b : Bits) (t : Bool) (x o : ℕ) (e : t ≡ any_bit b) where
-  pub old_gone : not t ≡ true → o ≡ 0 → o ≡ cond (any_bit b) x 0
-  old_gone h z = rw (sym e ∙ not-true t h) z
+  pub old_gone : t ≡ false → o ≡ 0 → o ≡ cond (any_bit b) x 0
+  old_gone h z = rw (sym e ∙ h) z
 
-  pub old_stays : not t ≡ false → o ≡ x → o ≡ cond (any_bit b) x 0
-  old_stays h z = rw (sym e ∙ not-false t h) z
+  pub old_stays : t ≡ true → o ≡ x → o ≡ cond (any_bit b) x 0
+  old_stays h z = rw (sym e ∙ h) z
 
 -- by whether the bit is set
 module _ (b b' : Bits) (on t q : Bool) where

@@ -1,5 +1,5 @@
 -- The points after corners changed: what the marks over the gathered keys leave, and when there are too many. Assumes nothing.
-use Rattle.std.proofs.Common.{◌≡◌, ℕ, zero, suc, ◌+◌, ◌-◌, ◌<◌, ◌≤◌, Bool, true, false, cond, List, [], ◌∷◌, ◌++◌, length, take, drop, replicate, sym, refl, ap, ◌∙◌, subst, arith}
+use Rattle.std.proofs.Common.{◌≡◌, ℕ, zero, suc, ◌-◌, ◌<◌, ◌≤◌, Bool, true, false, cond, List, ◌++◌, length, take, drop, replicate, sym, refl, ap, ◌∙◌, subst, arith, None, Some}
 use native.Mathlib.Nat.{sub-zero, suc-sub-suc, zero-sub}
 use lib.ListN.{length-replicate}
 use Rattle.corner.specs.Changes.{numbered}
@@ -18,10 +18,7 @@ use Rattle.table.proofs.TableLaws.{pad_length, pad_table, pad_take}
 use Rattle.marks.specs.Marked.{Answered, Begins, Gathers, Marking, MarksAll, Picks, candidate_room, ended, ending, max_candidates}
 use Rattle.marks.specs.Standing.{Standing, begun, standing, words}
 use Rattle.held.proofs.LayerLaws.{statuses_length}
-
-numbered_length : (changed : List (ℕ × Bits)) → length (numbered changed) ≡ length changed
-numbered_length [] = refl
-numbered_length (c ∷ changed) = ap suc (numbered_length changed)
+use Rattle.marks.proofs.StandLaws.{numbered_length}
 
 pub drop_zeros : (j m : ℕ) → drop {A = ℕ} j (replicate m 0) ≡ replicate (m - j) 0
 drop_zeros zero m = ap (λ (i : ℕ). replicate {A = ℕ} i 0) (sym (sub-zero m))
@@ -42,9 +39,6 @@ unfolding begun
 begun_first ps k = refl
 
 -- ---- the answer
-answered_many : (s : ℕ) (ps : Points) (changed : List (ℕ × Bits)) (a b : List ℕ) → max_points < length (ended s ps changed) → Answered s ps changed a a b b (max_points + 1)
-answered_many s ps changed a b h = (λ l. absurd (omega arith), λ l. (refl, refl, refl))
-
 module _ (s : ℕ) (ps : Points) (changed : List (ℕ × Bits)) (points statuses corners altered : List ℕ) (M : Marking s ps changed points statuses corners altered) where
   points_few : length points ≡ length ps
   points_few = ap length M.keys_are ∙ keys_length ps
@@ -74,16 +68,16 @@ module _ (s : ℕ) (ps : Points) (changed : List (ℕ × Bits)) (points statuses
       count_is : n ≡ length (ended s ps changed)
       count_is = counted after candidates marked_all ∙ ap length ended_all
 
-      pub keys_many : max_points < n → (x y : List ℕ) → Answered s ps changed x x y y (max_points + 1)
-      keys_many h x y = answered_many s ps changed x y (omega (arith, count_is))
+      pub keys_many : max_points < n → (x y : List ℕ) → Answered s ps changed x x y y None
+      keys_many h x y = (omega (arith, count_is), refl, refl)
 
       pub keys_few : n ≤ max_points → (x x' y y' : List ℕ) (u : ℕ) → max_points ≤ length x → max_points ≤ length y
           → Picks candidates m' x x' y y' u
-          → Answered s ps changed x x' y y' u
-      keys_few h x x' y y' u rx ry f = (
-        λ l. let z : length (ending after candidates) ≡ length (ended s ps changed) = ap length ended_all in subst (λ (q : List (ℕ × ℕ)). Listed q x x' y y' u) ended_all (f after marked_all (omega arith) (omega arith)),
-        λ l. absurd (omega (arith, count_is)),
-      )
+          → Answered s ps changed x x' y y' (Some u)
+      keys_few h x x' y y' u rx ry f =
+          let few : length (ended s ps changed) ≤ max_points = omega (arith, count_is) in
+          let z : length (ending after candidates) ≡ length (ended s ps changed) = ap length ended_all in
+          (few, subst (λ (q : List (ℕ × ℕ)). Listed q x x' y y' u) ended_all (f after marked_all (omega arith) (omega arith)))
 
   -- ---- the candidates are gathered from the points; the unused rest of t is zero
   module _ (t t' : List ℕ) (copied : Copied points (replicate candidate_room 0) t) (n : ℕ)
@@ -101,11 +95,11 @@ module _ (s : ℕ) (ps : Points) (changed : List (ℕ × Bits)) (points statuses
         gathered changed M.corners_are M.altered_are M.inside (rw padded table) (omega (arith, sizes.1)) (rw (ap length padded ∙ pad_length candidate_room points (omega (arith, sizes.1))) (omega arith))
 
     -- more than there may be stood on the way: too many are left
-    pub gathered_many : max_candidates < n → (x y : List ℕ) → Answered s ps changed x x y y (max_points + 1)
+    pub gathered_many : max_candidates < n → (x y : List ℕ) → Answered s ps changed x x y y None
     gathered_many h x y =
         let g : max_candidates < length (stand (marks s changed) (take (length points) t)) = all.1 h in
         let z : length (stand (marks s changed) (take (length points) t)) ≡ length (stand (marks s changed) (keys ps)) = ap (λ (l : List ℕ). length (stand (marks s changed) l)) first in
-        answered_many s ps changed x y (omega (arith, M.flight, M.few))
+        (omega (arith, M.flight, M.few), refl, refl)
 
     pub gathered_few : n ≤ max_candidates → AscL 0 (take n t') × (take n t' ≡ stand (marks s changed) (keys ps))
     gathered_few h = let g = all.0 h in (g.0.asc, g.1 ∙ ap (stand (marks s changed)) first)

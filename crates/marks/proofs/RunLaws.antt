@@ -10,9 +10,9 @@ use Rattle.table.specs.Listed.{values}
 use Rattle.table.specs.Tables.{All}
 use Rattle.table.proofs.AllLaws.{all_at}
 use Rattle.table.proofs.ListedLaws.{keys_length}
-use Rattle.marks.specs.Marked.{Bordered, MarksAll, dir_at}
+use Rattle.marks.specs.Marked.{Bordered, MarksAll}
 use Rattle.marks.specs.Standing.{Small, Standing, max_marks, standing, stood, words}
-use Rattle.marks.proofs.StandLaws.{cell_at, keys_at, mark_at, marks_length, marks_more, marks_next, numbers_at}
+use Rattle.marks.proofs.StandLaws.{cell_at, dir_at, keys_at, mark_at, marks_length, marks_more, marks_next, numbers_at}
 use Rattle.marks.proofs.StandingLaws.{standing_append, standing_one, standing_small}
 use Rattle.marks.proofs.WordsLaws.{words_same}
 

@@ -1,16 +1,21 @@
 -- The marks of a cell and of many, one after another, and the keys that they bring. Assumes nothing.
 use Rattle.std.proofs.Common.{◌≡◌, ℕ, zero, suc, ◌+◌, ◌*◌, ◌<◌, ◌≤◌, Bool, true, false, cond, eqb, ltb, List, [], ◌∷◌, ◌++◌, length, get_or, take, drop, sym, refl, ap, ◌∙◌, add-one, arith, take-append-drop, take-suc}
 use Rattle.corner.specs.Changes.{numbered}
-use Rattle.model.specs.Cell.{move}
+use Rattle.corner.specs.Weights.{dir}
+use Rattle.corner.specs.declared.bits.Corner.TheVariants.{Southwest, Southeast, Northwest, Northeast}
+use Rattle.model.specs.Cell.{Dir, move}
 use Rattle.model.specs.ClosedForm.{stand}
 use Rattle.model.specs.Corner.{Bits, bit, number, zero4}
 use Rattle.model.specs.Layer.{Mark, marks, marks_of}
 use Rattle.model.specs.Maps.{add, keys}
 use Rattle.model.proofs.StandLaws.{stand_append, stand_more}
 use Rattle.table.specs.Listed.{values}
-use Rattle.marks.specs.Marked.{dir_at}
 
 -- ---- the marks
+-- the directions in bit order
+abbrev pub dir_at : ℕ → Dir
+dir_at d = dir (get_or (Southwest ∷ Southeast ∷ Northwest ∷ Northeast ∷ []) d Southwest)
+
 -- the d-th of a cell's four
 abbrev pub mark_at : ℕ → ℕ → Bits → ℕ → Mark
 mark_at s k b d = record { dir = dir_at d; at = move s (dir_at d) k; on = bit (dir_at d) b }
@@ -51,6 +56,10 @@ unfolding keys
 keys_at [] i = refl
 keys_at (c ∷ changed) zero = refl
 keys_at (c ∷ changed) (suc i) = keys_at changed i
+
+pub numbered_length : (changed : List (ℕ × Bits)) → length (numbered changed) ≡ length changed
+numbered_length [] = refl
+numbered_length (c ∷ changed) = ap suc (numbered_length changed)
 
 pub numbers_at : (changed : List (ℕ × Bits)) (i : ℕ) → get_or (values (numbered changed)) i 0 ≡ number (cell_at changed i).1
 unfolding number

@@ -1,7 +1,7 @@
 -- Between functions: the points that the marks of some corners leave, as they are listed. Definitions only.
-use Rattle.std.specs.Prelude.{◌≡◌, ℕ, ◌+◌, ◌*◌, ◌^◌, ◌<◌, ◌≤◌, cond, List, [], ◌∷◌, length, take, ◌==◌}
+use Rattle.std.specs.Prelude.{◌≡◌, ℕ, ◌+◌, ◌*◌, ◌^◌, ◌<◌, ◌≤◌, cond, List, [], ◌∷◌, length, take, Option, Some, None}
 use Rattle.corner.specs.Changes.{numbered}
-use Rattle.model.specs.Cell.{Dir, SW, SE, NW, NE, W}
+use Rattle.model.specs.Cell.{W}
 use Rattle.model.specs.ClosedForm.{stand}
 use Rattle.model.specs.Corner.{Bits, any_bit}
 use Rattle.model.specs.Layer.{Points, marks}
@@ -11,10 +11,6 @@ use Rattle.table.specs.Listed.{Listed, values}
 use Rattle.table.specs.Tables.{All, Table}
 use Rattle.held.specs.Layers.{statuses_of}
 use Rattle.marks.specs.Standing.{Standing, begun, standing, word, words}
-
--- the directions in bit order
-abbrev pub dir_at : ℕ → Dir
-dir_at d = cond (d == 0) SW (cond (d == 1) SE (cond (d == 2) NW NE))
 
 -- as many cells as the largest shift further in every direction are keys too
 abbrev pub Bordered : ℕ → Type 0
@@ -72,12 +68,11 @@ Picks candidates m out out' told told' r =
     (f : ℕ → Standing) → m ≡ words f candidates → length (ending f candidates) ≤ length out → length (ending f candidates) ≤ length told → Listed (ending f candidates) out out' told told' r
 
 -- ---- the points in the end are listed; or there are too many, and nothing is written
-abbrev pub Answered : ℕ → Points → List (ℕ × Bits) → List ℕ → List ℕ → List ℕ → List ℕ → ℕ → Type 0
-Answered s ps changed out out' told told' r =
-    (length (ended s ps changed) ≤ max_points → Listed (ended s ps changed) out out' told told' r)
-    × (max_points < length (ended s ps changed) → (r ≡ max_points + 1) × (out' ≡ out) × (told' ≡ told))
+abbrev pub Answered : ℕ → Points → List (ℕ × Bits) → List ℕ → List ℕ → List ℕ → List ℕ → Option ℕ → Type 0
+Answered s ps changed out out' told told' None = (max_points < length (ended s ps changed)) × (out' ≡ out) × (told' ≡ told)
+Answered s ps changed out out' told told' (Some n) = (length (ended s ps changed) ≤ max_points) × Listed (ended s ps changed) out out' told told' n
 
-abbrev pub Marks : ℕ → List ℕ → List ℕ → List ℕ → List ℕ → List ℕ → List ℕ → List ℕ → List ℕ → ℕ → Type 0
+abbrev pub Marks : ℕ → List ℕ → List ℕ → List ℕ → List ℕ → List ℕ → List ℕ → List ℕ → List ℕ → Option ℕ → Type 0
 Marks s points statuses corners altered out out' told told' r =
     (ps : Points) (changed : List (ℕ × Bits)) → Marking s ps changed points statuses corners altered → max_points ≤ length out → max_points ≤ length told
     → Answered s ps changed out out' told told' r

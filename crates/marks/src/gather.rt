@@ -8,8 +8,9 @@ ghost use Rattle.model.specs.Corner.{Bits, number};
 ghost use Rattle.model.specs.Layer.{marks_of};
 ghost use Rattle.model.specs.Limits.{max_shift};
 ghost use Rattle.table.specs.Tables.{Table};
-ghost use Rattle.marks.specs.Marked.{Bordered, Gathers, dir_at};
+ghost use Rattle.marks.specs.Marked.{Bordered, Gathers};
 
+use crate::lists::Statuses;
 use corner::bits::{Corner, CornerStatus};
 use sizes::{COLUMN, POINTS};
 use std::num::{wrapping_add_u64, wrapping_sub_u64};
@@ -22,37 +23,25 @@ pub(crate) const CANDIDATES: usize = 2 * POINTS;
 pub(crate) const ROOM: usize = CANDIDATES + 4;
 
 // The corners in bit order.
-pub(crate) fn corner_at(d: u64) -> Corner
-    ensures { dir result ≡ dir_at d }
-{
-    if d == 0 {
-        return Corner::Southwest;
-    }
-    if d == 1 {
-        return Corner::Southeast;
-    }
-    if d == 2 {
-        return Corner::Northwest;
-    }
-    Corner::Northeast
-}
+pub(crate) const ORDER: [Corner; 4] = [
+    Corner::Southwest,
+    Corner::Southeast,
+    Corner::Northwest,
+    Corner::Northeast,
+];
 
 // The point that this corner of the cell k gives.
-pub(crate) fn shifted(k: u64, shift: u64, d: u64) -> u64
+pub(crate) fn shifted(k: u64, shift: u64, corner: Corner) -> u64
     requires { shift ≤ max_shift }
-    ensures { Bordered k → result ≡ move shift (dir_at d) k }
+    ensures { Bordered k → result ≡ move shift (dir corner) k }
 {
     let columns = shift * COLUMN;
-    if d == 0 {
-        return wrapping_sub_u64(k, columns + shift);
+    match corner {
+        Corner::Southwest => wrapping_sub_u64(k, columns + shift),
+        Corner::Southeast => wrapping_sub_u64(wrapping_add_u64(k, columns), shift),
+        Corner::Northwest => wrapping_sub_u64(wrapping_add_u64(k, shift), columns),
+        Corner::Northeast => wrapping_add_u64(k, columns + shift),
     }
-    if d == 1 {
-        return wrapping_sub_u64(wrapping_add_u64(k, columns), shift);
-    }
-    if d == 2 {
-        return wrapping_sub_u64(wrapping_add_u64(k, shift), columns);
-    }
-    wrapping_add_u64(k, columns + shift)
 }
 
 // Puts in the points that the corners of the cell k give.
@@ -63,32 +52,25 @@ fn put_corners(candidates: &mut [u64], n: usize, k: u64, status: u8, shift: u64)
 {
     let here = CornerStatus { bits: status };
     let mut used = n;
-    let mut d = 0;
-    while d < 4 {
-        if here.get(corner_at(d)) {
-            used = insert(candidates, used, shifted(k, shift, d));
+    for corner in ORDER {
+        if here.get(corner) {
+            used = insert(candidates, used, shifted(k, shift, corner));
         }
-        d += 1;
     }
     used
 }
 
 // Puts in the points that the corners give, until there are more than CANDIDATES.
-pub(crate) fn gather(
-    candidates: &mut [u64],
-    n: usize,
-    corners: &[u64],
-    altered: &[u8],
-    shift: u64,
-) -> usize
-    requires { (shift ≤ max_shift) × (length corners.now ≤ length altered.now) }
-    ensures { Gathers shift corners.now altered.now candidates.old n candidates.new result }
+pub(crate) fn gather(candidates: &mut [u64], n: usize, corners: Statuses, shift: u64) -> usize
+    requires { shift ≤ max_shift }
+    ensures { Gathers shift corners.entry.cells.now corners.entry.statuses.now candidates.old n candidates.new result }
 {
     let mut used = n;
-    let mut i = 0;
-    while i < corners.len() && used <= CANDIDATES {
-        used = put_corners(candidates, used, corners[i], altered[i], shift);
-        i += 1;
+    for (k, status) in corners.cells.iter().zip(corners.statuses) {
+        if CANDIDATES < used {
+            return used;
+        }
+        used = put_corners(candidates, used, *k, *status, shift);
     }
     used
 }

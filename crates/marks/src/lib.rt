@@ -2,6 +2,7 @@
 #![tactic(auto)]
 
 mod gather;
+pub mod lists;
 pub mod mood;
 pub mod points;
 mod run;

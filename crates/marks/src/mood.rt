@@ -9,7 +9,7 @@ use corner::bits::{Corner, CornerStatus};
 pub(crate) const MARKS: u64 = 1048576;
 
 // Its status; one more than its place among the old points, or 0; one more than the number of the first mark that
-// queued it, or 0.
+// queued it, or 0. 0 stays the number for none: all three are kept in one word of tables of fixed length.
 #[derive(Clone, Copy)]
 pub struct Mood {
     pub status: u8,
@@ -45,22 +45,16 @@ impl Mood {
     {
         let was = CornerStatus { bits: self.status };
         let is = was.set(corner, on);
-        let mut old = self.old;
-        if !is.is_corner() {
-            old = 0;
-        }
-        let mut queues = is.is_corner();
-        if on {
-            queues = !was.is_corner();
-        }
-        let mut first = self.first;
-        if queues && first == 0 {
-            first = n + 1;
-        }
+        let stays = is.is_corner();
+        let queues = if on { !was.is_corner() } else { stays };
         Mood {
             status: is.bits,
-            old,
-            first,
+            old: if stays { self.old } else { 0 },
+            first: if queues && self.first == 0 {
+                n + 1
+            } else {
+                self.first
+            },
         }
     }
 }

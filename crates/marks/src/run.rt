@@ -9,21 +9,22 @@ ghost use Rattle.marks.specs.Marked.{Begins, Bordered, MarksAll};
 ghost use Rattle.held.specs.Layers.{statuses_of};
 ghost use Rattle.marks.specs.Standing.{Small, Standing, begun, max_marks, mood, standing, stood, words};
 
-use crate::gather::{corner_at, shifted};
+use crate::gather::{ORDER, shifted};
+use crate::lists::Statuses;
 use crate::mood::{MARKS, Mood};
 use corner::bits::{Corner, CornerStatus};
 use table::place::{place, stands_at};
 
 // What is known of the candidate k before the marks.
-fn begin_at(points: &[u64], statuses: &[u8], k: u64) -> Mood
-    requires { (length points.now ≤ length statuses.now) × (length points.now ≤ max_points) }
+fn begin_at(points: Statuses, k: u64) -> Mood
+    requires { (length points.cells.now ≤ length points.statuses.now) × (length points.cells.now ≤ max_points) }
     ensures { (result.status < 16) × (result.old < 128) × (result.first ≡ 0)
-        × ((ps : Points) → points.now ≡ keys ps → statuses.now ≡ statuses_of ps → Asc 0 ps → result ≡ mood (begun ps k)) }
+        × ((ps : Points) → points.entry.cells.now ≡ keys ps → points.entry.statuses.now ≡ statuses_of ps → Asc 0 ps → result ≡ mood (begun ps k)) }
 {
-    let at = place(points, k);
-    if stands_at(points, at, k) {
+    let at = place(points.cells, k);
+    if stands_at(points.cells, at, k) {
         return Mood {
-            status: statuses[at] % 16,
+            status: points.statuses[at] % 16,
             old: at as u64 + 1,
             first: 0,
         };
@@ -36,14 +37,12 @@ fn begin_at(points: &[u64], statuses: &[u8], k: u64) -> Mood
 }
 
 // .. of all candidates.
-pub(crate) fn begin(points: &[u64], statuses: &[u8], candidates: &[u64], moods: &mut [u64])
-    requires { (length points.now ≤ length statuses.now) × (length points.now ≤ max_points) × (length candidates.now ≡ length moods.old) }
-    ensures { Begins points.now statuses.now candidates.now moods.new }
+pub(crate) fn begin(points: Statuses, candidates: &[u64], moods: &mut [u64])
+    requires { (length points.cells.now ≤ length points.statuses.now) × (length points.cells.now ≤ max_points) × (length candidates.now ≡ length moods.old) }
+    ensures { Begins points.entry.cells.now points.entry.statuses.now candidates.now moods.new }
 {
-    let mut i = 0;
-    while i < candidates.len() {
-        moods[i] = begin_at(points, statuses, candidates[i]).word();
-        i += 1;
+    for (i, k) in candidates.iter().enumerate() {
+        moods[i] = begin_at(points, *k).word();
     }
 }
 
@@ -72,44 +71,34 @@ fn mark_corners(candidates: &[u64], moods: &mut [u64], k: u64, status: u8, shift
         → moods.new ≡ words (λ x. standing n (marks_of shift k b) x (f x)) candidates.now) }
 {
     let here = CornerStatus { bits: status };
-    let mut d = 0;
-    while d < 4 {
-        let corner = corner_at(d);
+    for (d, corner) in ORDER.iter().enumerate() {
+        let point = shifted(k, shift, *corner);
         mark(
             candidates,
             moods,
-            shifted(k, shift, d),
-            corner,
-            here.get(corner),
-            n + d,
+            point,
+            *corner,
+            here.get(*corner),
+            n + d as u64,
         );
-        d += 1;
     }
 }
 
 // All marks of the corners.
-pub(crate) fn mark_all(
-    candidates: &[u64],
-    moods: &mut [u64],
-    corners: &[u64],
-    altered: &[u8],
-    shift: u64,
-)
+pub(crate) fn mark_all(candidates: &[u64], moods: &mut [u64], corners: Statuses, shift: u64)
     requires { (length candidates.now ≡ length moods.old) × (shift ≤ max_shift)
-        × (length corners.now ≤ length altered.now) × (length corners.now ≤ need_corners) }
+        × (length corners.cells.now ≤ length corners.statuses.now) × (length corners.cells.now ≤ need_corners) }
     ensures { (length moods.new ≡ length moods.old)
-        × MarksAll shift candidates.now corners.now altered.now moods.old moods.new }
+        × MarksAll shift candidates.now corners.entry.cells.now corners.entry.statuses.now moods.old moods.new }
 {
-    let mut i = 0;
-    while i < corners.len() {
+    for (i, k) in corners.cells.iter().enumerate() {
         mark_corners(
             candidates,
             moods,
-            corners[i],
-            altered[i],
+            *k,
+            corners.statuses[i],
             shift,
             4 * i as u64,
         );
-        i += 1;
     }
 }

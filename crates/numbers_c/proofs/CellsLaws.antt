@@ -1,10 +1,14 @@
 -- The bytes that the near tests of many cells leave. Assumes nothing.
-use Rattle.std.proofs.Common.{◌≡◌, ℕ, zero, suc, ◌+◌, ◌<◌, ◌≤◌, Bool, List, [], ◌∷◌, ◌++◌, map, length, get_or, drop, set, refl, ap, ◌∙◌, suc-le-suc, le_of_suc-le-suc, not-suc-le-zero, zero-lt-suc, arith, le-leb}
-use borrow.Author.Tests.{lt-leb}
+use Rattle.std.proofs.Common.{◌≡◌, ℕ, zero, suc, ◌+◌, ◌<◌, ◌≤◌, Bool, true, false, List, [], ◌∷◌, ◌++◌, map, length, get_or, drop, set, refl, ap, ◌∙◌, suc-le-suc, le_of_suc-le-suc, not-suc-le-zero, zero-lt-suc, arith, le-leb}
+use Rattle.std.specs.Int.{from_bool}
 use lib.Ieee.{Float}
 use Rattle.table.proofs.Front.{mix, mix_more, mix_done}
 use Rattle.model.specs.Segment.{Seg, passes_near}
 use Rattle.numbers_c.specs.Cells.{number, told}
+
+pub byte_number : (b : Bool) → from_bool b ≡ number b
+byte_number true = refl
+byte_number false = refl
 
 abbrev pub answers : (ℕ → Bool) → List ℕ → List ℕ
 answers f cells = map (λ k. number (f k)) cells
@@ -31,10 +35,6 @@ answer_more f cells out i h k =
     rw (← answers_at f cells i h) (mix_more (answers f cells) out i 0 l (omega arith))
 
 module _ (s : Seg) (c r : Float) (cells out : List ℕ) where
-  pub told_nothing : length out < length cells → out ≡ told s c r cells out
-  unfolding told
-  told_nothing h = rw (lt-leb (length cells) (length out) h) refl
-
   pub told_all : (f : ℕ → Bool) → ((i : ℕ) → i < length cells → f (get_or cells i 0) ≡ passes_near s (get_or cells i 0) c r) → length cells ≤ length out → mix (answers f cells) out (length cells) ≡ told s c r cells out
   unfolding told
   told_all f e h =

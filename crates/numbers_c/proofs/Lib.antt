@@ -1,3 +1,2 @@
 -- The laws of crate `numbers_c`.
 pub mod CellsLaws
-pub mod PlaceLaws

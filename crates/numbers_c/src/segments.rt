@@ -5,22 +5,13 @@ ghost use Rattle.model.specs.Segment.{distance, horizontal_at, passes_near, vert
 ghost use Rattle.plane.specs.Values.{pt};
 ghost use Rattle.segment.specs.Crossing.{places};
 ghost use Rattle.segment.specs.Values.{seg};
-ghost use Rattle.numbers_c.specs.Cells.{number, told};
+ghost use Rattle.numbers_c.specs.Cells.{told};
 
 use limits::cell::Cell;
 use plane::point::Point;
 use segment::line::{Crossings, LineSegment};
 use segment::many::NearTest;
 use segment::near::Proximity;
-
-fn byte(b: bool) -> u8
-    ensures { result ≡ number b }
-{
-    if b {
-        return 1;
-    }
-    0
-}
 
 // How far a point is from a segment.
 #[unsafe(no_mangle)]
@@ -56,6 +47,7 @@ pub extern "C" fn runcedau_near(s: LineSegment, cell: Cell, size: f64, radius: f
 // One segment against many cells: a 1 for each cell that it passes near, a 0 for each other. Nothing
 // is written where there is no room for all.
 #[unsafe(no_mangle)]
+#[tactic(auto, unfolding(crate::specs::Cells::told))]
 pub extern "C" fn runcedau_near_cells(
     s: LineSegment,
     size: f64,
@@ -70,10 +62,8 @@ pub extern "C" fn runcedau_near_cells(
         return false;
     }
     let test = NearTest::new(s, Proximity::new(size, radius), cells.len());
-    let mut i = 0;
-    while i < cells.len() {
-        near[i] = byte(test.passes(cells[i]));
-        i += 1;
+    for (i, cell) in cells.iter().enumerate() {
+        near[i] = u8::from(test.passes(*cell));
     }
     true
 }

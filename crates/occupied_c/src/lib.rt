@@ -1,4 +1,5 @@
-// The cells and corners of a map under C names. Each function is the call of that name, with its contract.
+// The cells and corners of a map under C names. Each function is the call of that name, with its contract, and
+// its answer as C has it.
 #![tactic(auto)]
 
 ghost use Rattle.answers.specs.CellLists.{CornerCells, IsOccupied, OccupiedCells};
@@ -13,7 +14,7 @@ use limits::cell::Cell;
 pub extern "C" fn runcedau_is_occupied(map: Map, cells: &[u64], cell: Cell) -> Told
     ensures { IsOccupied map cells.now cell.x cell.y result }
 {
-    is_occupied(map, cells, cell)
+    Told::from(is_occupied(map, cells, cell))
 }
 
 // The occupied cells.
@@ -21,7 +22,7 @@ pub extern "C" fn runcedau_is_occupied(map: Map, cells: &[u64], cell: Cell) -> T
 pub extern "C" fn runcedau_occupied_cells(map: Map, cells: &[u64], out: &mut [u64]) -> Count
     ensures { OccupiedCells map cells.now out.old out.new result }
 {
-    occupied_cells(map, cells, out)
+    Count::from(occupied_cells(map, cells, out))
 }
 
 // The cells with a corner, and their statuses.
@@ -34,5 +35,5 @@ pub extern "C" fn runcedau_corner_cells(
 ) -> Count
     ensures { CornerCells map cells.now out.old statuses.old out.new statuses.new result }
 {
-    corner_cells(map, cells, out, statuses)
+    Count::from(corner_cells(map, cells, out, statuses))
 }

@@ -41,6 +41,8 @@ pub fn ends(n: u32, size: f64) -> f64
 
 // The corners in the Rust's order, (0,0), (0,1), (1,0), (1,1), by their number: the Rust's
 // `cell.shifted(m, n).bottom_left_point(size)`. A higher number counts from 0 again.
+// A number and no enum: what is promised holds for every number, and the near test counts through them.
+#[tactic(auto, using(ieee::proofs::Unbiased::column_next), unfolding(model::specs::Plane::low_corner))]
 pub fn corner(cell: u64, i: u64, size: f64) -> Point
     ensures { pt result ≡ low_corner size cell (pos (i / 2 % 2)) (pos (i % 2)) }
 {

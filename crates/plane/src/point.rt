@@ -16,6 +16,7 @@ pub struct Vector {
     pub y: f64,
 }
 
+#[tactic(auto, unfolding(model::specs::Plane::minus, model::specs::Plane::plus))]
 impl Point {
     // The vector from `other` to this point.
     pub fn minus(self, other: Point) -> Vector
@@ -47,6 +48,7 @@ impl Point {
     }
 }
 
+#[tactic(auto, unfolding(model::specs::Plane::minus, model::specs::Plane::times, model::specs::Plane::over, model::specs::Plane::dot, model::specs::Plane::norm, model::specs::Plane::turned))]
 impl Vector {
     pub fn minus(self, w: Vector) -> Vector
         ensures { vec result ≡ minus (vec self) (vec w) }

@@ -2,7 +2,8 @@
 pub mod CellLaws
 pub mod DecimalLaws
 pub mod Determinate
+pub mod NumberLaws
 pub mod PrintLaws
 pub mod PutLaws
 pub mod RowLaws
-pub mod TextLaws
+pub mod WroteLaws

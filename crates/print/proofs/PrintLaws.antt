@@ -20,24 +20,6 @@ module _ {roomy : Bool} {room at r : ℕ} {s t t' : List ℕ} where
   printed_not e p h = record { done = λ q. not_both q e; lacking = λ q. (p, h) }
 
 -- ---- room for lines
--- n lines fit if the rest of the room is as many lines
-fits_test : (bytes at n : ℕ) → at ≤ bytes → ltb ((bytes - at) / line_room) n ≡ not (leb (at + line_room * n) bytes)
-fits_test bytes at n h =
-    ⊎_elim
-    (λ q. rw (lt-ltb ((bytes - at) / line_room) n q, lt-leb (at + line_room * n) bytes (omega arith)))
-    (λ q. rw (le-ltb ((bytes - at) / line_room) n q, le-leb (at + line_room * n) bytes (omega arith)))
-    (lt_or_ge ((bytes - at) / line_room) n)
-
--- of three tests the second fails, the last fails, or none does
-second_fails : (x z : Bool) → true ≡ not (x && false && z)
-second_fails true z = refl
-second_fails false z = refl
-
-last_fails : (x y : Bool) → true ≡ not (x && y && false)
-last_fails true true = refl
-last_fails true false = refl
-last_fails false y = refl
-
 none_fails : (x y z : Bool) → not (x && y && z) ≡ false → (x ≡ true) × (y ≡ true) × (z ≡ true)
 none_fails true true true e = (refl, refl, refl)
 none_fails true true false e = absurd (true≢false e)
@@ -45,18 +27,6 @@ none_fails true false z e = absurd (true≢false e)
 none_fails false y z e = absurd (true≢false e)
 
 module _ (n second third at bytes : ℕ) where
-  pub lacks_second : second < n → true ≡ not (lines_fit n second third at bytes)
-  lacks_second h = rw (lt-leb n second h)
-
-  pub lacks_third : third < n → true ≡ not (lines_fit n second third at bytes)
-  lacks_third h = rw (lt-leb n third h) (second_fails (leb n second) (leb (at + line_room * n) bytes))
-
-  pub lacks_place : bytes < at → true ≡ not (lines_fit n second third at bytes)
-  lacks_place h = rw (lt-leb (at + line_room * n) bytes (omega arith)) (last_fails (leb n second) (leb n third))
-
-  pub lacks_rest : n ≤ second → n ≤ third → at ≤ bytes → ltb ((bytes - at) / line_room) n ≡ not (lines_fit n second third at bytes)
-  lacks_rest h k l = rw (le-leb n second h, le-leb n third k) (fits_test bytes at n l)
-
   pub fit : not (lines_fit n second third at bytes) ≡ false → (n ≤ second) × (n ≤ third) × (at + line_room * n ≤ bytes)
   fit e =
       let p = none_fails (leb n second) (leb n third) (leb (at + line_room * n) bytes) e in

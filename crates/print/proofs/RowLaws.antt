@@ -13,19 +13,19 @@ use Rattle.model.specs.Limits.{line_room}
 use Rattle.print.proofs.PrintLaws.{fit, fits, printed_done}
 use Rattle.print.proofs.PutLaws.{put_none, put_then, put_long}
 
-module _ (line : ℕ → ℕ → ℕ → List ℕ) where
-  rows_suc : (a b c : List ℕ) (i : ℕ) → i < length a → i < length b → i < length c
-      → rows line (take (suc i) a) b c ≡ rows line (take i a) b c ++ line (get_or a i 0) (get_or b i 0) (get_or c i 0)
-  rows_suc [] b c i h k l = absurd (not-suc-le-zero h)
-  rows_suc (x ∷ a) [] c i h k l = absurd (not-suc-le-zero k)
-  rows_suc (x ∷ a) (y ∷ b) [] i h k l = absurd (not-suc-le-zero l)
-  rows_suc (x ∷ a) (y ∷ b) (z ∷ c) zero h k l = append-nil (line x y z)
-  rows_suc (x ∷ a) (y ∷ b) (z ∷ c) (suc i) h k l =
-      ap (λ (r : List ℕ). line x y z ++ r) (rows_suc a b c i (le_of_suc-le-suc h) (le_of_suc-le-suc k) (le_of_suc-le-suc l))
-      ∙ sym (append_assoc (line x y z) (rows line (take i a) b c) (line (get_or a i 0) (get_or b i 0) (get_or c i 0)))
+module _ {B : Type 0} (line : ℕ → B → ℕ → List ℕ) where
+  rows_suc : (d : B) (a : List ℕ) (b : List B) (c : List ℕ) (i : ℕ) → i < length a → i < length b → i < length c
+      → rows line (take (suc i) a) b c ≡ rows line (take i a) b c ++ line (get_or a i 0) (get_or b i d) (get_or c i 0)
+  rows_suc d [] b c i h k l = absurd (not-suc-le-zero h)
+  rows_suc d (x ∷ a) [] c i h k l = absurd (not-suc-le-zero k)
+  rows_suc d (x ∷ a) (y ∷ b) [] i h k l = absurd (not-suc-le-zero l)
+  rows_suc d (x ∷ a) (y ∷ b) (z ∷ c) zero h k l = append-nil (line x y z)
+  rows_suc d (x ∷ a) (y ∷ b) (z ∷ c) (suc i) h k l =
+      ap (λ (r : List ℕ). line x y z ++ r) (rows_suc d a b c i (le_of_suc-le-suc h) (le_of_suc-le-suc k) (le_of_suc-le-suc l))
+      ∙ sym (append_assoc (line x y z) (rows line (take i a) b c) (line (get_or a i 0) (get_or b i d) (get_or c i 0)))
 
   -- i lines are written
-  pub record Writing (a b c t t' : List ℕ) (at end i : ℕ) : Type 0 where
+  pub record Writing (a : List ℕ) (b : List B) (c t t' : List ℕ) (at end i : ℕ) : Type 0 where
     pub inside : i ≤ length a
     pub wide_b : length a ≤ length b
     pub wide_c : length a ≤ length c
@@ -34,19 +34,19 @@ module _ (line : ℕ → ℕ → ℕ → List ℕ) where
     pub few : end ≤ at + line_room * i
     pub is : Put (rows line (take i a) b c) at end t t'
 
-  pub writing_none : (a b c t : List ℕ) (at : ℕ) → not (lines_fit (length a) (length b) (length c) at (length t)) ≡ false → Writing a b c t t at at 0
+  pub writing_none : (a : List ℕ) (b : List B) (c t : List ℕ) (at : ℕ) → not (lines_fit (length a) (length b) (length c) at (length t)) ≡ false → Writing a b c t t at at 0
   writing_none a b c t at e =
       let f = fit (length a) (length b) (length c) at (length t) e in
       record { inside = omega arith; wide_b = f.0; wide_c = f.1; room = f.2; long = refl; few = omega arith; is = put_none at t }
 
-  module _ {a b c t t' : List ℕ} {at end i : ℕ} (w : Writing a b c t t' at end i) where
+  module _ {a : List ℕ} {b : List B} {c t t' : List ℕ} {at end i : ℕ} (w : Writing a b c t t' at end i) where
     -- there is room for one more line
     pub writing_room : i < length a → end + line_room ≤ length t'
     writing_room h = omega arith
 
-    pub writing_more : {t'' : List ℕ} {r : ℕ} → i < length a → Put (line (get_or a i 0) (get_or b i 0) (get_or c i 0)) end r t' t'' → r ≤ end + line_room
+    pub writing_more : {t'' : List ℕ} {r : ℕ} (d : B) → i < length a → Put (line (get_or a i 0) (get_or b i d) (get_or c i 0)) end r t' t'' → r ≤ end + line_room
         → Writing a b c t t'' at r (i + 1)
-    writing_more h p k =
+    writing_more d h p k =
         let e = w.long in
         let hb = w.wide_b in
         let hc = w.wide_c in
@@ -58,7 +58,7 @@ module _ (line : ℕ → ℕ → ℕ → List ℕ) where
           room = w.room;
           long = f ∙ w.long;
           few = omega arith;
-          is = rw (add-one i, rows_suc a b c i h (omega arith) (omega arith)) (put_then w.is (omega arith) p);
+          is = rw (add-one i, rows_suc d a b c i h (omega arith) (omega arith)) (put_then w.is (omega arith) p);
         }
 
     pub writing_done : length a ≤ i → PrintedRows line a b c at end t t'

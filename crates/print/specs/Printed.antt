@@ -21,7 +21,7 @@ block_of zero = none
 block_of (suc k) = some (suc k)
 
 -- a line for each entry that all three columns have
-abbrev pub rows : (ℕ → ℕ → ℕ → List ℕ) → List ℕ → List ℕ → List ℕ → List ℕ
+abbrev pub rows : {B : Type 0} → (ℕ → B → ℕ → List ℕ) → List ℕ → List B → List ℕ → List ℕ
 rows line [] b c = []
 rows line (x ∷ a) [] c = []
 rows line (x ∷ a) (y ∷ b) [] = []
@@ -39,5 +39,5 @@ abbrev pub lines_fit : ℕ → ℕ → ℕ → ℕ → ℕ → Bool
 lines_fit n second third at bytes = leb n second && leb n third && leb (at + line_room * n) bytes
 
 -- the lines of three columns were written, if they fit
-abbrev pub PrintedRows : (ℕ → ℕ → ℕ → List ℕ) → List ℕ → List ℕ → List ℕ → ℕ → ℕ → List ℕ → List ℕ → Type 0
+abbrev pub PrintedRows : {B : Type 0} → (ℕ → B → ℕ → List ℕ) → List ℕ → List B → List ℕ → ℕ → ℕ → List ℕ → List ℕ → Type 0
 PrintedRows line a b c at r t t' = Printed (lines_fit (length a) (length b) (length c) at (length t)) (line_room * length a) (rows line a b c) at r t t'

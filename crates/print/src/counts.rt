@@ -4,7 +4,7 @@ ghost use Rattle.model.specs.Listing.{counts_line};
 ghost use Rattle.print.specs.Printed.{Printed};
 ghost use Rattle.model.specs.Limits.{first_room};
 
-use crate::bytes::{put_byte, put_labelled};
+use crate::printer::Printer;
 use sizes::FIRST_LINE;
 
 #[derive(Clone, Copy)]
@@ -26,11 +26,13 @@ pub fn put_counts(out: &mut [u8], counts: Counts) -> usize
     if out.len() < FIRST_LINE {
         return 0;
     }
-    let a = put_labelled(out, 0, b"cells ", counts.cells);
-    let b = put_labelled(out, a, b" corners ", counts.corners);
-    let c = put_labelled(out, b, b" points ", counts.points);
-    let d = put_labelled(out, c, b" edges ", counts.edges);
-    let e = put_labelled(out, d, b" open ", counts.open);
-    let f = put_labelled(out, e, b" blocks ", counts.blocks);
-    put_byte(out, f, b'\n')
+    let mut printer = Printer { out, at: 0 };
+    printer.labelled(b"cells ", counts.cells);
+    printer.labelled(b" corners ", counts.corners);
+    printer.labelled(b" points ", counts.points);
+    printer.labelled(b" edges ", counts.edges);
+    printer.labelled(b" open ", counts.open);
+    printer.labelled(b" blocks ", counts.blocks);
+    printer.byte(b'\n');
+    printer.at
 }

@@ -1,11 +1,10 @@
-// The lines of a listing, as bytes in a lent buffer. Each function writes from a place on, and returns the place after its last byte.
+// The lines of a listing, as bytes in a lent buffer.
 #![tactic(auto)]
 
-mod bytes;
 mod cell;
 pub mod counts;
 mod line;
 pub mod pairs;
 pub mod points;
+mod printer;
 pub mod refusal;
-mod room;

@@ -1,20 +1,19 @@
 // The lines of pairs: `e x y x y blocker`.
-ghost use Rattle.std.specs.Prelude.{◌+◌, ◌≤◌, length};
-ghost use Rattle.model.specs.Listing.{pair_line};
-ghost use Rattle.print.specs.Printed.{PrintedRows, Put, block_of, pair_row};
-ghost use Rattle.model.specs.Limits.{line_room};
+ghost use Rattle.print.specs.Printed.{PrintedRows, pair_row};
 
-use crate::cell::put_cell;
-use crate::line::{put_end, put_start};
-use crate::room::lacks_room;
+use crate::line::{Line, put_lines};
+use crate::printer::Printer;
 
-fn put_pair(out: &mut [u8], at: usize, lesser: u64, greater: u64, block: u64) -> usize
-    requires { at + line_room ≤ length out.old }
-    ensures { Put (pair_line lesser greater (block_of block)) at result out.old out.new × (result ≤ at + line_room) }
-{
-    let a = put_start(out, at, b"e ", lesser);
-    let b = put_cell(out, a, greater, b' ');
-    put_end(out, b, block)
+struct Pair;
+
+impl Line<u64> for Pair {
+    ghost line = { pair_row };
+
+    fn put(to: &mut Printer, lesser: u64, greater: u64, block: u64) {
+        to.start(b"e ", lesser);
+        to.cell(greater, b' ');
+        to.end(block);
+    }
 }
 
 // A line for each lesser cell, with its greater cell and its blocker's code. Nothing is written where there is not room for 80 bytes a line.
@@ -27,15 +26,5 @@ pub fn put_pairs(
 ) -> usize
     ensures { PrintedRows pair_row lesser.now greater.now blocks.now at result out.old out.new }
 {
-    let n = lesser.len();
-    if lacks_room(out.len(), at, n, greater.len(), blocks.len()) {
-        return at;
-    }
-    let mut end = at;
-    let mut i = 0;
-    while i < n {
-        end = put_pair(out, end, lesser[i], greater[i], blocks[i]);
-        i += 1;
-    }
-    end
+    put_lines::<u64, Pair>(out, at, lesser, greater, blocks)
 }

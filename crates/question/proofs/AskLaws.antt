@@ -1,6 +1,5 @@
 -- A question's refusals in their order, and what a call of `ask` answers. Assumes nothing.
 use Prim.Native.Nat.{ℕ, ◌≤◌, ◌<◌}
-use native.Mathlib.Nat.{suc-ne-zero}
 use mathlib.Core.Path.{◌≡◌, refl, sym, ap, ◌∙◌, subst}
 use mathlib.Core.Bool.{Bool, true, false, or-false, true≢false}
 use mathlib.Core.List.{List, [], ◌∷◌}
@@ -15,18 +14,20 @@ use Rattle.model.specs.Maps.{AscL}
 use Rattle.model.proofs.DueLaws as model
 use Rattle.model.specs.Refusal.{first_due, is_due, order, verdict, short, bad_size}
 use Rattle.model.specs.Shape.{Question, ask}
+use Rattle.std.specs.Prelude as std
+use Rattle.std.specs.Prelude.{Result, Ok}
 use Rattle.limits.proofs.WordLaws.{judged}
 use Rattle.limits.specs.Words.{first_on, word_on}
 use Rattle.table.specs.Tables.{All}
 use Rattle.limits.specs.Floor.{Holds}
+use Rattle.limits.specs.declared.cell.Cell.{Cell}
 use Rattle.limits.specs.declared.floor.Floor.{Floor}
+use Rattle.limits.specs.declared.refusal.Refusal.{Refusal}
 use Rattle.limits.proofs.FloorLaws.{holds_cells}
-use Rattle.question.specs.Answer.{cell_at, nowhere, placed}
+use Rattle.question.specs.Answer.{cell_at, placed}
 use Rattle.question.specs.Ask.{Asked, refuse_ask, refuse_floor}
 use Rattle.question.specs.Question.{asked}
 use Rattle.question.specs.Walk.{found, found_as, keyed}
-use Rattle.question.specs.declared.ask.Answer.{Answer}
-use Rattle.question.specs.declared.ask.Place.{Place}
 use Rattle.question.specs.declared.search.Found.{Found}
 use Rattle.question.specs.declared.search.Question as code
 
@@ -67,27 +68,17 @@ found_back : (o : Option ℕ) → (found (keyed o)).cell ≡ o
 found_back none = refl
 found_back (some k) = refl
 
-pub search_placed : (c : Float) (t : List ℕ) (n : ℕ) (q : Question) (o : Found) (p : Place) → placed p ≡ cell_at (found o).cell
+pub search_placed : (c : Float) (t : List ℕ) (n : ℕ) (q : Question) (o : Found) (p : std.Option Cell) → placed p ≡ cell_at (found o).cell
     → (AscL 0 (take n t) → All (Inside max_coordinate) (take n t) → o ≡ found_as (ask c (take n t) q)) → (C : List ℕ) → Holds t n C → placed p ≡ cell_at (ask c C q).cell
 search_placed c t n q o p e f C h =
     e ∙ ap cell_at (ap (λ (v : Found). (found v).cell) (search_told c t n q o f C h) ∙ found_back (ask c C q).cell)
 
--- ---- the call: r is what it answers
-module _ (floor : Floor) (t : List ℕ) (q : code.Question) (r : Answer) where
-  abbrev due : ℕ
-  due = refuse_ask (length t) floor.size floor.cells (asked q)
-
-  pub ask_refused : (m : ℕ) → (m ≡ 0 → ⊥) → m ≡ due → r ≡ nowhere m → Asked floor t q r
-  ask_refused m not_zero e f = record {
-    refusal = number ∙ e;
-    refused = λ n s. f ∙ ap nowhere (sym number ∙ s);
-    answer = λ C h z. absurd (not_zero (sym number ∙ z));
-  }
-    where
-      number : r.refusal ≡ m
-      number = ap (λ (a : Answer). a.refusal) f
-
-  pub ask_answered : (o : Found) → 0 ≡ due → r.refusal ≡ 0 → placed r.cell ≡ cell_at (found o).cell
-      → (AscL 0 (take floor.cells t) → All (Inside max_coordinate) (take floor.cells t) → o ≡ found_as (ask floor.size (take floor.cells t) (asked q))) → Asked floor t q r
-  ask_answered o e z p f =
-      record { refusal = z ∙ e; refused = λ n s. absurd (suc-ne-zero _ (sym s ∙ z)); answer = λ C h w. search_placed floor.size t floor.cells (asked q) o r.cell p f C h }
+-- ---- the call: what is not refused answers what was found
+pub ask_answered : (floor : Floor) (t : List ℕ) (q : code.Question) (o : Found) (p : std.Option Cell)
+    → 0 ≡ refuse_ask (length t) floor.size floor.cells (asked q) → placed p ≡ cell_at (found o).cell
+    → (AscL 0 (take floor.cells t) → All (Inside max_coordinate) (take floor.cells t) → o ≡ found_as (ask floor.size (take floor.cells t) (asked q)))
+    → Asked floor t q (Ok p)
+ask_answered floor t q o p e z f = record { refusal = e; answer = λ C h w v. search_placed floor.size t floor.cells (asked q) o w (ap placed (sym (same v)) ∙ z) f C h }
+  where
+    same : {w : std.Option Cell} → ◌≡◌ {A = Result (std.Option Cell) Refusal} (Ok p) (Ok w) → p ≡ w
+    same v = cc

@@ -14,8 +14,8 @@ use Rattle.ieee.proofs.Tools.{same_test, T_true}
 use Rattle.model.specs.Limits.{max_query}
 use Rattle.model.specs.Refusal.{bad_number, bad_length}
 use Rattle.plane.specs.declared.point.Point.{Point}
+use Rattle.std.specs.Prelude.{None}
 use Rattle.question.specs.Numbered.{question_of}
-use Rattle.question.specs.declared.numbered.Numbered.{Numbered}
 
 -- the least number that passes
 abbrev pub least_query : Float
@@ -53,7 +53,7 @@ length_test z = rw (number_test z) (go (le nought z) refl)
     go false e = or-true (not (le least_query z && le z max_query))
 
 -- a shape's number is 3 at most
-pub above_unknown : (shape : ℕ) (p q : Point) (extent : Float) → 3 < shape → question_of shape p q extent ≡ Numbered.Unknown
+pub above_unknown : (shape : ℕ) (p q : Point) (extent : Float) → 3 < shape → question_of shape p q extent ≡ None
 unfolding question_of
 above_unknown shape p q extent h =
     rw (ne_eqb shape 0 (λ e. omega (arith, e, h)), ne_eqb shape 1 (λ e. omega (arith, e, h)), ne_eqb shape 2 (λ e. omega (arith, e, h)), ne_eqb shape 3 (λ e. omega (arith, e, h))) refl

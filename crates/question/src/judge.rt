@@ -5,7 +5,6 @@ ghost use Rattle.plane.specs.Values.{pt};
 ghost use Rattle.question.specs.Question.{asked};
 ghost use Rattle.question.specs.Numbered.{bad_numbered};
 
-use crate::numbered::Numbered;
 use crate::search::Question;
 use plane::point::Point;
 
@@ -13,41 +12,30 @@ use plane::point::Point;
 fn bad_number(z: f64) -> bool
     ensures { result ≡ bad_number z }
 {
-    if -1099511627776.0 <= z && z <= 1099511627776.0 {
-        return false;
-    }
-    true
+    !(-1099511627776.0 <= z && z <= 1099511627776.0)
 }
 
 // Minus zero passes.
 fn bad_length(z: f64) -> bool
     ensures { result ≡ bad_length z }
 {
-    if 0.0 <= z && z <= 1099511627776.0 {
-        return false;
-    }
-    true
+    !(0.0 <= z && z <= 1099511627776.0)
 }
 
 fn bad_point(p: Point) -> bool
     ensures { result ≡ bad_point (pt p) }
 {
-    if bad_number(p.x) {
-        return true;
-    }
-    bad_number(p.y)
+    bad_number(p.x) || bad_number(p.y)
 }
 
 // A place and a length.
 fn bad_disc(p: Point, length: f64) -> bool
     ensures { result ≡ bad_point (pt p) || bad_length length }
 {
-    if bad_point(p) {
-        return true;
-    }
-    bad_length(length)
+    bad_point(p) || bad_length(length)
 }
 
+#[tactic(auto, unfolding(model::specs::Refusal::bad_question))]
 pub fn bad_question(question: Question) -> bool
     ensures { result ≡ bad_question (asked question) }
 {
@@ -60,11 +48,8 @@ pub fn bad_question(question: Question) -> bool
 }
 
 // A number that names no shape is outside its bounds.
-pub fn bad_numbered(numbered: Numbered) -> bool
+pub fn bad_numbered(numbered: Option<Question>) -> bool
     ensures { result ≡ bad_numbered numbered }
 {
-    match numbered {
-        Numbered::Unknown => true,
-        Numbered::Known(question) => bad_question(question),
-    }
+    numbered.is_none_or(bad_question)
 }

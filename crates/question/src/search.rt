@@ -7,7 +7,7 @@ ghost use Rattle.plane.specs.Values.{pt};
 ghost use Rattle.question.specs.Question.{asked};
 ghost use Rattle.question.specs.Walk.{Tested, bounds_around, found_as, keyed};
 
-use crate::walk::{first_flat, first_round, first_swept};
+use crate::walk::{Flat, Round, Swept, first_taken};
 use plane::point::Point;
 use shape::bounds::Bounds;
 use shape::circle::Circle;
@@ -25,8 +25,8 @@ pub enum Question {
     Sweep(Point, Point, f64),
 }
 
-// What a test finds: a cell's key, or none, and then the key is 0. Numbers and no enum: whether something is found is
-// often not to be predicted, and a struct of numbers needs no branch.
+// What a test finds: a cell's key, or none, and then the key is 0. No Option: whether something is found is often not to be
+// predicted, and a struct of numbers needs no branch (measured, docs/SPEED.md).
 #[derive(Clone, Copy)]
 pub struct Found {
     pub some: bool,
@@ -75,19 +75,17 @@ fn square(size: f64, cells: &[u64], p: Point, width: f64) -> Found
     ensures { Tested cells.now (square_test size cells.now (pt p) width) result }
 {
     let d = width / 2.0;
-    first_flat(cells, around(size, p.x, d), around(size, p.y, d))
+    let rows = around(size, p.y, d);
+    first_taken(cells, around(size, p.x, d), Flat { rows })
 }
 
 // `is_circle_occupied`
 fn circle(size: f64, cells: &[u64], p: Point, radius: f64) -> Found
     ensures { Tested cells.now (circle_test size cells.now (pt p) radius) result }
 {
-    first_round(
-        cells,
-        around(size, p.x, radius),
-        around(size, p.y, radius),
-        Circle::new(size, p, radius),
-    )
+    let rows = around(size, p.y, radius);
+    let circle = Circle::new(size, p, radius);
+    first_taken(cells, around(size, p.x, radius), Round { rows, circle })
 }
 
 // `is_sweep_occupied`; 1e-8 as there.
@@ -99,7 +97,7 @@ fn sweep(size: f64, cells: &[u64], p0: Point, p1: Point, width: f64) -> Found
         return point(size, cells, p0);
     }
     let strip = Strip::new(p0, p1, length, width / 2.0);
-    first_swept(cells, strip.columns(size), strip, size)
+    first_taken(cells, strip.columns(size), Swept { strip, size })
 }
 
 // The first occupied cell, by x, then y, that qualifies.

@@ -1,7 +1,8 @@
 // The first cell that a shape takes, by columns and rows. A column is a stretch of the table, and the rows asked for
-// are a stretch that begins inside it. There is a walk for each shape: a square and a circle can look at one cell
-// before they cut its column out of the table, a strip has to work out its rows first.
-ghost use Rattle.std.specs.Prelude.{◌≡◌, ℕ, ◌+◌, ◌^◌, ◌≤◌, ◌<◌};
+// are a stretch that begins inside it. A square and a circle can look at one cell before they cut its column out of the
+// table, a strip has to work out its rows first.
+ghost use Rattle.std.specs.Prelude.{◌≡◌, ℕ, true, ◌+◌, ◌^◌, ◌≤◌, ◌<◌};
+ghost use Rattle.model.specs.Cell.{col};
 ghost use Rattle.shape.specs.Bounds.{in_bounds};
 ghost use Rattle.shape.specs.declared.bounds.Bounds.{Bounds};
 ghost use Rattle.question.specs.Walk.{First, FirstIn, Left, Shape, column_taken, flat, round, row_taken, rows_at, swept, taken};
@@ -16,69 +17,122 @@ use table::place::place;
 
 // ---- one column
 
+// Whether y is one of these rows.
 fn in_rows(y: u64, rows: Bounds) -> bool
     ensures { result ≡ in_bounds rows y }
 {
-    if rows.low <= y {
-        return y < rows.high;
-    }
-    false
-}
-
-fn met_in_rows(k: u64, rows: Bounds, circle: Circle) -> bool
-    ensures { result ≡ column_taken (round rows circle) 0 k }
-{
-    if in_rows(k % COLUMN, rows) {
-        return circle.meets(k);
-    }
-    false
+    rows.low <= y && y < rows.high
 }
 
 // The first of the cells from a row on, if it lies below the row `high`.
 fn lowest(rows: &[u64], high: u64) -> Found
     ensures { (x : ℕ) (b : Bounds) → FirstIn x (row_taken high (flat b)) rows.now result }
 {
-    if rows.len() == 0 {
-        return Found::nothing();
+    match rows {
+        [] => Found::nothing(),
+        [k, ..] => Found::only(*k % COLUMN < high, *k),
     }
-    let k = rows[0];
-    Found::only(k % COLUMN < high, k)
 }
 
 // The first of the cells from a row on that lies below the row `high` and that the circle meets.
 fn first_met(rows: &[u64], high: u64, circle: Circle) -> Found
     ensures { (x : ℕ) (b : Bounds) → FirstIn x (row_taken high (round b circle)) rows.now result }
 {
-    let mut i = 0;
-    while i < rows.len() {
-        let k = rows[i];
+    for &k in rows {
         if high <= k % COLUMN {
             return Found::nothing();
         }
         if circle.meets(k) {
             return Found { some: true, key: k };
         }
-        i += 1;
     }
     Found::nothing()
 }
 
-fn flat_in(col: &[u64], rows: Bounds) -> Found
-    ensures { (x : ℕ) → FirstIn x (column_taken (flat rows) x) col.now result }
-{
-    lowest(rows_from(col, rows.low), rows.high)
+// What a shape takes, column by column.
+pub(crate) trait Taking: Copy {
+    ghost shape: { Self → Shape };
+
+    // No row below this one is taken.
+    fn low(self) -> u64
+        ensures { (x : ℕ) → result ≤ (rows_at (shape self) x).low };
+
+    // Whether a look at one cell tells that it is taken: false where that takes more.
+    fn takes(self, k: u64) -> bool
+        ensures { result ≡ true → column_taken (shape self) (col k) k ≡ true };
+
+    // The first of a column's cells that is taken.
+    fn first_in(self, col: &[u64], x: u64) -> Found
+        ensures { FirstIn x (column_taken (shape self) x) col.now result };
 }
 
-fn round_in(col: &[u64], rows: Bounds, circle: Circle) -> Found
-    ensures { (x : ℕ) → FirstIn x (column_taken (round rows circle) x) col.now result }
-{
-    first_met(rows_from(col, rows.low), rows.high, circle)
+// The same rows in every column.
+#[derive(Clone, Copy)]
+pub(crate) struct Flat {
+    pub(crate) rows: Bounds,
 }
 
-fn swept_in(col: &[u64], x: u64, strip: Strip, size: f64) -> Found
-    ensures { FirstIn x (column_taken (swept strip size) x) col.now result }
-{
-    flat_in(col, strip.rows(size, x))
+// The cells that a circle meets, of the same rows in every column.
+#[derive(Clone, Copy)]
+pub(crate) struct Round {
+    pub(crate) rows: Bounds,
+    pub(crate) circle: Circle,
+}
+
+// In each column the rows of a swept strip.
+#[derive(Clone, Copy)]
+pub(crate) struct Swept {
+    pub(crate) strip: Strip,
+    pub(crate) size: f64,
+}
+
+impl Taking for Flat {
+    ghost shape = { λ s. flat s.rows };
+
+    fn low(self) -> u64 {
+        self.rows.low
+    }
+
+    fn takes(self, k: u64) -> bool {
+        in_rows(k % COLUMN, self.rows)
+    }
+
+    fn first_in(self, col: &[u64], _x: u64) -> Found {
+        lowest(rows_from(col, self.rows.low), self.rows.high)
+    }
+}
+
+impl Taking for Round {
+    ghost shape = { λ s. round s.rows s.circle };
+
+    fn low(self) -> u64 {
+        self.rows.low
+    }
+
+    fn takes(self, k: u64) -> bool {
+        in_rows(k % COLUMN, self.rows) && self.circle.meets(k)
+    }
+
+    fn first_in(self, col: &[u64], _x: u64) -> Found {
+        first_met(rows_from(col, self.rows.low), self.rows.high, self.circle)
+    }
+}
+
+impl Taking for Swept {
+    ghost shape = { λ s. swept s.strip s.size };
+
+    fn low(self) -> u64 {
+        0
+    }
+
+    fn takes(self, _k: u64) -> bool {
+        false
+    }
+
+    fn first_in(self, col: &[u64], x: u64) -> Found {
+        let rows = self.strip.rows(self.size, x);
+        Flat { rows }.first_in(col, x)
+    }
 }
 
 // ---- all columns
@@ -88,10 +142,7 @@ fn swept_in(col: &[u64], x: u64, strip: Strip, size: f64) -> Found
 fn begin(cells: &[u64], columns: Bounds, row: u64) -> usize
     ensures { (s : Shape) → ((x : ℕ) → row ≤ (rows_at s x).low) → Left columns s cells.now result }
 {
-    if COLUMN <= columns.low {
-        return cells.len();
-    }
-    if COLUMN <= row {
+    if COLUMN <= columns.low || COLUMN <= row {
         return cells.len();
     }
     place(cells, columns.low * COLUMN + row)
@@ -102,72 +153,25 @@ fn after(i: usize, n: usize) -> usize
     requires { (i < 2 ^ 63) × (n < 2 ^ 63) }
     ensures { (i < result) × (0 < n → result ≡ i + n) }
 {
-    if n == 0 {
-        return i + 1;
-    }
-    i + n
+    i + n.max(1)
 }
 
-// The same rows in every column. The first cell from the first row of the first column on is often the one.
-pub(crate) fn first_flat(cells: &[u64], columns: Bounds, rows: Bounds) -> Found
-    ensures { First (taken columns (flat rows)) cells.now result }
+// The first cell of these columns that is taken. The first cell from the first row of the first column on is often the one.
+pub(crate) fn first_taken<S: Taking>(cells: &[u64], columns: Bounds, shape: S) -> Found
+    ensures { First (taken columns (S.shape shape)) cells.now result }
 {
-    let mut i = begin(cells, columns, rows.low);
+    let mut i = begin(cells, columns, shape.low());
     while i < cells.len() {
         let k = cells[i];
         let x = k / COLUMN;
         if columns.high <= x {
             return Found::nothing();
         }
-        if in_rows(k % COLUMN, rows) {
+        if shape.takes(k) {
             return Found { some: true, key: k };
         }
         let col = column(&cells[i..], x);
-        let here = flat_in(col, rows);
-        if here.some {
-            return here;
-        }
-        i = after(i, col.len());
-    }
-    Found::nothing()
-}
-
-// The cells that a circle meets, of the same rows in every column.
-pub(crate) fn first_round(cells: &[u64], columns: Bounds, rows: Bounds, circle: Circle) -> Found
-    ensures { First (taken columns (round rows circle)) cells.now result }
-{
-    let mut i = begin(cells, columns, rows.low);
-    while i < cells.len() {
-        let k = cells[i];
-        let x = k / COLUMN;
-        if columns.high <= x {
-            return Found::nothing();
-        }
-        if met_in_rows(k, rows, circle) {
-            return Found { some: true, key: k };
-        }
-        let col = column(&cells[i..], x);
-        let here = round_in(col, rows, circle);
-        if here.some {
-            return here;
-        }
-        i = after(i, col.len());
-    }
-    Found::nothing()
-}
-
-// In each column the rows of a swept strip.
-pub(crate) fn first_swept(cells: &[u64], columns: Bounds, strip: Strip, size: f64) -> Found
-    ensures { First (taken columns (swept strip size)) cells.now result }
-{
-    let mut i = begin(cells, columns, 0);
-    while i < cells.len() {
-        let x = cells[i] / COLUMN;
-        if columns.high <= x {
-            return Found::nothing();
-        }
-        let col = column(&cells[i..], x);
-        let here = swept_in(col, x, strip, size);
+        let here = shape.first_in(col, x);
         if here.some {
             return here;
         }

@@ -1,26 +1,53 @@
 // Batches of changes: an entry that a line gives, and what a batch did.
-ghost use Rattle.std.specs.Prelude.{◌≡◌};
+ghost use Rattle.std.specs.Prelude.{◌≡◌, replicate, pos, take};
 ghost use Rattle.replay.specs.Entered.{entered, used_then};
 
 use crate::lines::write_number;
-use sizes::COLUMN;
+use limits::cell::Cell;
 use std::io;
 use std::io::Write;
 
-// Puts an entry's three numbers after those that the batch has so far, where there is room. Returns how many it has then.
-pub fn enter(batch: &mut [i64], used: usize, x: i64, y: i64, full: i64) -> usize
-    ensures { (result ≡ used_then batch.old used) × (batch.new ≡ entered batch.old used x y full) }
-{
-    if batch.len() < 3 {
-        return used;
+// The longest batch has 300 entries.
+const NUMBERS: usize = 900;
+
+// A batch in the making: three numbers an entry, and how many there are so far.
+#[derive(Clone, Copy)]
+pub struct Batch {
+    pub numbers: [i64; NUMBERS],
+    pub used: usize,
+}
+
+impl Batch {
+    pub fn new() -> Batch
+        ensures { (result.used ≡ 0) × (result.numbers ≡ replicate 900 (pos 0)) }
+    {
+        Batch {
+            numbers: [0; NUMBERS],
+            used: 0,
+        }
     }
-    if batch.len() - 3 < used {
-        return used;
+
+    // Puts an entry's three numbers after those that the batch has so far, where there is room.
+    #[tactic(auto, unfolding(crate::specs::Entered::entered, crate::specs::Entered::used_then))]
+    pub fn enter(&mut self, x: i64, y: i64, full: i64)
+        ensures { (self.new.used ≡ used_then self.old.numbers self.old.used) × (self.new.numbers ≡ entered self.old.numbers self.old.used x y full) }
+    {
+        let used = self.used;
+        if NUMBERS - 3 < used {
+            return;
+        }
+        self.numbers[used] = x;
+        self.numbers[used + 1] = y;
+        self.numbers[used + 2] = full;
+        self.used = used + 3;
     }
-    batch[used] = x;
-    batch[used + 1] = y;
-    batch[used + 2] = full;
-    used + 3
+
+    // The numbers so far.
+    pub fn entries(&self) -> &[i64]
+        ensures { result.now ≡ take self.now.used self.now.numbers }
+    {
+        &self.numbers[..self.used.min(NUMBERS)]
+    }
 }
 
 // Writes the column and the row of a key, what is to come between them, and what is to follow.
@@ -30,20 +57,12 @@ pub fn write_cell<W: Write>(
     between: &[u8],
     end: &[u8],
 ) -> io::Result<()> {
-    let x = (key / COLUMN).wrapping_sub(2147483648);
-    let y = (key % COLUMN).wrapping_sub(2147483648);
-    write_number(output, x, between)?;
-    write_number(output, y, end)
+    let cell = Cell::of_key(key);
+    write_number(output, cell.x.cast_unsigned(), between)?;
+    write_number(output, cell.y.cast_unsigned(), end)
 }
 
-// A cell and its number, on a line of their own.
-fn write_change<W: Write>(output: &mut W, mark: &[u8], key: u64, number: u8) -> io::Result<()> {
-    output.write_all(mark)?;
-    write_cell(output, key, b" ", b" ")?;
-    write_number(output, number as u64, b"\n")
-}
-
-// Writes the first `count` changes.
+// Writes the first `count` changes, each cell and its number on a line of their own.
 pub fn write_changes<W: Write>(
     output: &mut W,
     mark: &[u8],
@@ -51,16 +70,10 @@ pub fn write_changes<W: Write>(
     numbers: &[u8],
     count: usize,
 ) -> io::Result<()> {
-    if keys.len() < count {
-        return Ok(());
-    }
-    if numbers.len() < count {
-        return Ok(());
-    }
-    let mut i = 0;
-    while i < count {
-        write_change(output, mark, keys[i], numbers[i])?;
-        i += 1;
+    for (key, number) in keys.iter().zip(numbers).take(count) {
+        output.write_all(mark)?;
+        write_cell(output, *key, b" ", b" ")?;
+        write_number(output, *number as u64, b"\n")?;
     }
     Ok(())
 }

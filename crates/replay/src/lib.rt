@@ -4,4 +4,5 @@
 pub mod change;
 pub mod lines;
 pub mod patterns;
+pub mod program;
 pub mod questions;

@@ -4,20 +4,11 @@
 use std::io;
 use std::io::{Read, Write};
 
-// Fills the line, and says whether the input had that much.
-pub fn read_line<R: Read>(input: &mut R, line: &mut [u8]) -> bool {
-    input.read_exact(line).is_ok()
-}
-
-// Fills a part of the line, and says whether the input had that much.
-pub fn read_part<R: Read>(input: &mut R, line: &mut [u8], from: usize, to: usize) -> bool {
-    if to < from {
-        return false;
-    }
-    if line.len() < to {
-        return false;
-    }
-    read_line(input, &mut line[from..to])
+// The next line, where the input has that much.
+pub fn read_line<const N: usize, R: Read>(input: &mut R) -> Option<[u8; N]> {
+    let mut line = [0u8; N];
+    input.read_exact(&mut line).ok()?;
+    Some(line)
 }
 
 // Writes the pattern's digits, and what is to follow them.
@@ -32,22 +23,24 @@ pub fn write_number<W: Write>(output: &mut W, pattern: u64, end: &[u8]) -> io::R
     output.write_all(end)
 }
 
-fn write_behind<W: Write>(output: &mut W, number: u64) -> io::Result<()> {
-    output.write_all(b" ")?;
-    write_number(output, number, b"")
+// A line that is to be answered, and where the answer goes.
+#[derive(Drop)]
+pub struct Reply<'a, W> {
+    pub line: &'a [u8],
+    pub output: &'a mut W,
 }
 
-// Writes a line again, with its answer's numbers in front of its end.
-pub fn answer<W: Write>(output: &mut W, line: &[u8], numbers: &[u64]) -> io::Result<()> {
-    let n = line.len();
-    if n == 0 {
-        return Ok(());
+impl<W: Write> Reply<'_, W> {
+    // Writes the line again, with its answer's numbers in front of its end.
+    pub fn answer(&mut self, numbers: &[u64]) -> io::Result<()> {
+        let [front @ .., _] = self.line else {
+            return Ok(());
+        };
+        self.output.write_all(front)?;
+        for number in numbers {
+            self.output.write_all(b" ")?;
+            write_number(self.output, *number, b"")?;
+        }
+        self.output.write_all(b"\n")
     }
-    output.write_all(&line[..n - 1])?;
-    let mut i = 0;
-    while i < numbers.len() {
-        write_behind(output, numbers[i])?;
-        i += 1;
-    }
-    output.write_all(b"\n")
 }

@@ -1,15 +1,15 @@
 // What the programs share that replay questions: a line's cell or question, and how a question's answer is written.
-ghost use Rattle.std.specs.Prelude.{◌≡◌, ◌<◌};
+ghost use Rattle.std.specs.Prelude.{◌≡◌};
 ghost use Rattle.replay.specs.Patterns.{integer_of, pattern_at};
 ghost use Rattle.plane.specs.Values.{pt};
 ghost use Rattle.question.specs.Question.{asked};
-ghost use Rattle.replay.specs.Lines.{point_at, question_at, shaped};
+ghost use Rattle.replay.specs.Lines.{question_at, shaped};
 
-use crate::lines::answer;
-use crate::patterns::{float_at, integer_at, signed};
+use crate::lines::Reply;
+use crate::patterns::{float_at, integer_at, point_at, signed};
 use limits::cell::Cell;
+use limits::refusal::Refusal;
 use plane::point::Point;
-use question::ask::{Answer, Place};
 use question::search::Question;
 use std::io;
 use std::io::Write;
@@ -24,30 +24,17 @@ pub fn cell_at(line: &[u8]) -> Cell
     }
 }
 
-fn point_at(line: &[u8], from: usize) -> Point
-    requires { from < 104 }
-    ensures { pt result ≡ point_at line.now from }
-{
-    Point {
-        x: float_at(line, from),
-        y: float_at(line, from + 17),
-    }
-}
-
 // The letter's shape: s, c and w, or any other for a point.
+#[tactic(auto, unfolding(crate::specs::Lines::shaped))]
 fn shape_of(letter: u8, p: Point, q: Point, length: f64, width: f64) -> Question
     ensures { asked result ≡ shaped letter (pt p) (pt q) length width }
 {
-    if letter == b's' {
-        return Question::Square(p, length);
+    match letter {
+        b's' => Question::Square(p, length),
+        b'c' => Question::Circle(p, length),
+        b'w' => Question::Sweep(p, q, width),
+        _ => Question::Point(p),
     }
-    if letter == b'c' {
-        return Question::Circle(p, length);
-    }
-    if letter == b'w' {
-        return Question::Sweep(p, q, width);
-    }
-    Question::Point(p)
 }
 
 // p  x y, s  x y width, c  x y radius, w  x0 y0 x1 y1 width
@@ -60,14 +47,13 @@ pub fn question_at(letter: u8, line: &[u8]) -> Question
 }
 
 // The refusal, 1 or 0, and the cell found.
-pub fn answer_place<W: Write>(output: &mut W, line: &[u8], a: Answer) -> io::Result<()> {
-    let place = a.cell;
-    match place {
-        Place::Nothing => answer(output, line, &[a.refusal as u64, 0, 0, 0]),
-        Place::At(c) => answer(
-            output,
-            line,
-            &[a.refusal as u64, 1, signed(c.x), signed(c.y)],
-        ),
+pub fn answer_place<W: Write>(
+    reply: &mut Reply<'_, W>,
+    answer: Result<Option<Cell>, Refusal>,
+) -> io::Result<()> {
+    match answer {
+        Ok(Some(c)) => reply.answer(&[0, 1, signed(c.x), signed(c.y)]),
+        Ok(None) => reply.answer(&[0; 4]),
+        Err(refusal) => reply.answer(&[refusal.number() as u64, 0, 0, 0]),
     }
 }

@@ -24,8 +24,8 @@ use Rattle.mapfile.proofs.ReadingLaws.{read_accepted}
 
 -- ---- what is written
 module _ (b o : List ℕ) where
-  pub list_short : (r : Count) → length o < need_listing → r ≡ refused_with 9 → Listed b o o r
-  list_short r h e = record { short = λ k. (e, refl); done = λ k. absurd (omega arith) }
+  pub list_short : length o < need_listing → Listed b o o (refused_with 9)
+  list_short h = record { short = λ k. (refl, refl); done = λ k. absurd (omega arith) }
 
   module _ (room : need_listing ≤ length o) (o' : List ℕ) where
     list_done : (r : Count) (s : Reading) → read_file b ≡ s → r.refusal ≡ 0 → r.count ≡ length (listed s) → o' ≡ listed s ++ drop r.count o → Listed b o o' r

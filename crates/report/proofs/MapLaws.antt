@@ -4,7 +4,6 @@ use native.Mathlib.Nat.{zero-add}
 use native.Mathlib.Omega.{arith}
 use mathlib.Core.Path.{◌≡◌, refl, sym, ap, ◌∙◌}
 use mathlib.Core.List.{List, [], ◌∷◌, ◌++◌}
-use mathlib.Core.Logic.{◌⊎◌, ⊎_elim}
 use lib.Dec.{leb}
 use lib.ListN.{drop, length, length-append, length-drop, take}
 use lib.Seq.{take_at}
@@ -86,11 +85,8 @@ PairsAre M n zeros lesser greater blocks =
     ∷ record { was = zeros; is = blocks; wanted = λ M. pair_blocks (all_pairs M) } ∷ [])
 
 module _ (M : model.Map) (n : ℕ) (zeros lesser greater blocks : List ℕ) (long : length zeros ≡ need_pairs) (same : length lesser ≡ need_pairs) (w : PairsAre M n zeros lesser greater blocks) where
-  all_few : n ≤ need_pairs
+  pub all_few : n ≤ need_pairs
   all_few = all_fit (lessers (all_pairs M)) zeros lesser n w.0 w.1 long same
-
-  pub all_clamped : (edges : ℕ) → ((need_pairs < n) × (edges ≡ need_pairs)) ⊎ ((n ≤ need_pairs) × (edges ≡ n)) → edges ≡ n
-  all_clamped edges = ⊎_elim (λ x. let f = all_few in let g = x.0 in let e = x.1 in omega arith) (λ x. x.1)
 
 module _ (m : Map) (t : Tables) (M : model.Map) (h : Holds m t M) (points statuses blockers : List ℕ) (p : t.points ≡ points) (s : t.statuses ≡ statuses) (b : t.blockers ≡ blockers) where
   module _ (n edges : ℕ) (zeros lesser greater blocks : List ℕ) (long : length zeros ≡ need_pairs) (same : length lesser ≡ need_pairs) (w : PairsAre M n zeros lesser greater blocks) (came : edges ≡ n) where

@@ -1,72 +1,53 @@
 // The counts of a listing's first line.
 ghost use Rattle.std.specs.Prelude.{◌≡◌, ◌≤◌, length};
 ghost use Rattle.model.specs.Answers.{corners, open_pairs};
-ghost use Rattle.model.specs.Limits.{max_cells, max_points};
-ghost use Rattle.held.specs.Pairs.{pair_places};
+ghost use Rattle.model.specs.Limits.{max_cells};
+ghost use Rattle.model.specs.Refusal.{short};
+ghost use Rattle.held.specs.Holds.{needs};
+ghost use Rattle.held.specs.Lent.{viewed};
 ghost use Rattle.report.specs.Counted.{Tells, counts_of};
 
 use answers::cells::corner_cells;
 use answers::pairs::open_pairs;
 use blocks::count::count_blocks;
 use held::map::Map;
+use held::tables::View;
+use limits::refusal::Refusal;
 use print::counts::Counts;
 use sizes::{CELLS, LISTED};
 
 // How many cells have a corner.
-fn count_corners(map: Map, cells: &[u64]) -> usize
-    requires { max_cells ≤ length cells.now }
-    ensures { Tells map (λ t. t.cells ≡ cells.now) (λ M. length (corners M)) result }
+fn count_corners(map: Map, tables: View) -> Result<usize, Refusal>
+    ensures { Tells map (viewed tables.entry) (λ M. length (corners M)) result }
 {
-    let mut keys = [0u64; CELLS];
-    let mut statuses = [0u8; CELLS];
-    let found = corner_cells(map, cells, &mut keys[..], &mut statuses[..]);
-    found.count
+    corner_cells(map, tables.cells, &mut [0; CELLS], &mut [0; CELLS])
 }
 
 // How many pairs are open.
-fn count_open(map: Map, points: &[u64], blockers: &[u64], pairs: &[u64]) -> usize
-    requires { (max_points ≤ length points.now) × (max_points ≤ length blockers.now) × (pair_places ≤ length pairs.now) }
-    ensures { Tells map (λ t. (t.points ≡ points.now) × (t.blockers ≡ blockers.now) × (t.pairs ≡ pairs.now))
-        (λ M. length (open_pairs M)) result }
+fn count_open(map: Map, tables: View) -> Result<usize, Refusal>
+    ensures { Tells map (viewed tables.entry) (λ M. length (open_pairs M)) result }
 {
-    let mut lesser = [0u64; LISTED];
-    let mut greater = [0u64; LISTED];
-    let found = open_pairs(
+    open_pairs(
         map,
-        points,
-        blockers,
-        pairs,
-        &mut lesser[..],
-        &mut greater[..],
-    );
-    found.count
+        tables.points,
+        tables.blockers,
+        tables.pairs,
+        &mut [0; LISTED],
+        &mut [0; LISTED],
+    )
 }
 
 // The counts of a map with so many pairs.
-pub(crate) fn count_all(
-    map: Map,
-    cells: &[u64],
-    points: &[u64],
-    blockers: &[u64],
-    pairs: &[u64],
-    edges: usize,
-) -> Counts
-    requires { (map.cells ≤ max_cells) × (max_cells ≤ length cells.now) × (max_points ≤ length points.now) × (max_points ≤ length blockers.now)
-        × (pair_places ≤ length pairs.now) }
-    ensures { Tells map
-        (λ t. (t.cells ≡ cells.now) × (t.points ≡ points.now) × (t.blockers ≡ blockers.now) × (t.pairs ≡ pairs.now))
-        (counts_of map.points edges) result }
+pub(crate) fn count_all(map: Map, tables: View, edges: usize) -> Result<Counts, Refusal>
+    requires { (map.cells ≤ max_cells) × (max_cells ≤ length tables.cells.now) }
+    ensures { Tells map (viewed tables.entry) (counts_of map.points edges) result }
 {
-    let n = map.cells;
-    let corners = count_corners(map, cells);
-    let open = count_open(map, points, blockers, pairs);
-    let blocks = count_blocks(&cells[..n]);
-    Counts {
-        cells: n as u64,
-        corners: corners as u64,
+    Ok(Counts {
+        cells: map.cells as u64,
+        corners: count_corners(map, tables)? as u64,
         points: map.points as u64,
         edges: edges as u64,
-        open: open as u64,
-        blocks: blocks as u64,
-    }
+        open: count_open(map, tables)? as u64,
+        blocks: count_blocks(&tables.cells[..map.cells]) as u64,
+    })
 }

@@ -1,47 +1,31 @@
 // The listing of a map file.
+ghost use Rattle.answers.specs.Told.{counted};
 ghost use Rattle.report.specs.Filed.{Listed};
 
 use crate::map::list_map;
-use answers::judge::{Count, refused};
+use held::tables::Tables;
+use limits::refusal::Refusal;
 use mapfile::file::read_file;
+use mapfile::state::FileRefusal;
 use print::refusal::put_refusal;
 use sizes::{CELLS, LISTING, PAIRS, POINTS};
 
 // Writes what the program prints for the bytes of a map file. The count that is returned is that of the listing's bytes.
-pub fn list_file(bytes: &[u8], out: &mut [u8]) -> Count
-    ensures { Listed bytes.now out.old out.new result }
+pub fn list_file(bytes: &[u8], out: &mut [u8]) -> Result<usize, Refusal>
+    ensures { Listed bytes.now out.old out.new (counted result) }
 {
     if out.len() < LISTING {
-        return refused(9);
+        return Err(Refusal::ShortTable);
     }
-    let mut cells = [0u64; CELLS];
-    let mut points = [0u64; POINTS];
-    let mut statuses = [0u8; POINTS];
-    let mut blockers = [0u64; POINTS];
-    let mut pairs = [0u64; PAIRS];
-    let opened = read_file(
-        bytes,
-        &mut cells[..],
-        &mut points[..],
-        &mut statuses[..],
-        &mut blockers[..],
-        &mut pairs[..],
-    );
-    if opened.refusal != 0 {
-        let n = put_refusal(out, opened.refusal, opened.field);
-        return Count {
-            refusal: 0,
-            count: n,
-        };
+    let mut tables = Tables {
+        cells: &mut [0; CELLS],
+        points: &mut [0; POINTS],
+        statuses: &mut [0; POINTS],
+        blockers: &mut [0; POINTS],
+        pairs: &mut [0; PAIRS],
+    };
+    match read_file(bytes, &mut tables) {
+        Ok(map) => list_map(map, tables.view(), out),
+        Err(FileRefusal { refusal, field }) => Ok(put_refusal(out, refusal.number(), field)),
     }
-    let map = opened.map;
-    list_map(
-        map,
-        &cells[..],
-        &points[..],
-        &statuses[..],
-        &blockers[..],
-        &pairs[..],
-        out,
-    )
 }

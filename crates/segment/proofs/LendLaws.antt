@@ -10,7 +10,7 @@ use base.Fraction.{full_share}
 use lib.Ieee.{Float, binary64, fits}
 use mir.Syntax.{Callee, Opd as Operand, Place, named, seq, call}
 use mir.Syntax.{Body as Code}
-use mir.Val.{Val, vunit, vbool, vfloat, vptr, vstruct, vnil, vcons}
+use mir.Val.{Val, vunit, vfloat, vptr}
 use base.Logic.{SProp, ent, sep, guard, via, fst∗, snd∗, ex_e, id⊢}
 use base.Fml.{GName, ftrue, fsep, fat, flft, fres, flent}
 use prog.Wp.{Env, Calls, Loops, Spot}
@@ -48,8 +48,12 @@ abbrev vals : SearchF64 → List Val
 vals = LL.vals T.the_type T'.the_laws
 
 -- the struct as one machine value
+abbrev head : List Val → Val
+head [] = vunit
+head (v ∷ l) = v
+
 abbrev pub mach : SearchF64 → Val
-mach s = vstruct (vcons (vbool s.found) (vcons (vfloat binary64 s.value) vnil))
+mach s = head (vals s)
 
 module _ {M : Type 1} {𝓤 : Ura M} (𝓛 : Logic 𝓤) where
   open 𝓛 use {H, A}

@@ -2,7 +2,6 @@
 pub mod AsideLaws
 pub mod CrossingLaws
 pub mod LendLaws
-pub mod MeetsLaws
 pub mod NearLaws
 pub mod SearchWalk
 pub mod SpanLaws

@@ -1,4 +1,4 @@
--- The walk that `check_min` and `check_max` share: `let seen = *self; *self = seen.g(other);` leaves `f self other` behind the reference, where g returns
+-- The walk that `check_min` and `check_max` share: `*self = self.g(other);` leaves `f self other` behind the reference, where g returns
 -- `f self other`. Of g it knows only its contract. The signatures are those of `check_min` and `least`, which `check_max` and `greatest` have too.
 --     code g           the MIR, over the callee's name
 --     ByValue f        the callee's contract.        Lent f        the caller's
@@ -60,7 +60,7 @@ code g = record {
   givens = 0;
   params = 2;
   locals = local ty_unit value_local ∷ local (ty_ref (named 0) mut (pointee R.written)) value_local ∷ local (ty_float binary64) value_local ∷ local T'.mir value_local ∷ local T'.mir value_local ∷ [];
-  body = seq (assign (place 3 []) (rv_opd (copy (place 1 (deref T'.mir ∷ []))))) (seq (call g (copy (place 3 []) ∷ copy (place 2 []) ∷ []) (place 4 [])) (seq (assign (place 1 (deref T'.mir ∷ [])) (rv_opd (copy (place 4 [])))) (seq (assign (place 0 []) (rv_opd opd_unit)) return)));
+  body = seq (assign (place 4 []) (rv_opd (copy (place 1 (deref T'.mir ∷ []))))) (seq (call g (copy (place 4 []) ∷ copy (place 2 []) ∷ []) (place 3 [])) (seq (assign (place 1 (deref T'.mir ∷ [])) (rv_opd (copy (place 3 [])))) (seq (assign (place 0 []) (rv_opd opd_unit)) return)));
 }
 
 abbrev stayed : Stays (lent.ended).signature.params (lent.ended).kept
@@ -120,15 +120,15 @@ module _ (f : SearchF64 → Float → SearchF64) {M : Type 1} {𝓤 : Ura M} (�
           opens ! tt R {h = h} b o (λ vs. spelt ! R (Is R) (shows 𝓛 R) vals (LL.tells T.the_type T'.the_laws) full_share h vs b o $
           move ! (1 ∷ []) $ peeks ! R (Is R) (shows 𝓛 R) h (vals h) (λ was.
           -- [what the struct owns; its cell; the open borrow; obs; auth; true; what `other` owns; _4; …; _3; …; _2; …; _1; …; room for _0; …]
-          assigns ! (of_opd ! (load ! (from ! (hop ! (look ! 13 refl) (stop !))) (look_raw ! 1 refl))) (from ! (stop !)) (init ! 9 refl ((LL.lawful T.the_type T'.the_laws 𝓛).typed h _ was).0) $
+          assigns ! (of_opd ! (load ! (from ! (hop ! (look ! 13 refl) (stop !))) (look_raw ! 1 refl))) (from ! (stop !)) (init ! 7 refl ((LL.lawful T.the_type T'.the_laws 𝓛).typed h _ was).0) $
           use1 𝓛 (raw (ByValue.pre passed)) passes_on $
-          calls_at ! fm ByValue known passed (and_then ! (load ! (from ! (stop !)) (look ! 9 refl)) (and_then ! (load ! (from ! (stop !)) (look ! 11 refl)) (no_more !))) (λ v.
+          calls_at ! fm ByValue known passed (and_then ! (load ! (from ! (stop !)) (look ! 7 refl)) (and_then ! (load ! (from ! (stop !)) (look ! 11 refl)) (no_more !))) (λ v.
           use1 𝓛 (later (some (λ (r : SearchF64). (‵ ftrue ⊛ ‵ (R.own_val r (v ∷ []))) ⊛ raw (ensured 𝓛 by_value.ended value_clauses tt (h, (a, tt)) tt r)))) (id⊢ 𝓤 _) $ await ! tt $ pick ! (λ r.
           split ! $ move ! (1 ∷ []) $ use1 𝓛 (raw (fact 𝓤 (r ≡ f h a))) (answered h a r) $ heard ! (r ≡ f h a) (λ e. split ! $ drop ! $
           peeks ! R (Is R) (shows 𝓛 R) r (v ∷ []) (λ is.
           -- [what the result owns; the struct's cell; and the rest as before]
-          land ! (from ! (stop !)) (init ! 7 refl ((LL.lawful T.the_type T'.the_laws 𝓛).typed r _ is).0) $
-          assigns ! (of_opd ! (load ! (from ! (stop !)) (look ! 7 refl))) (from ! (hop ! (look ! 13 refl) (stop !))) (store_raw ! 1 refl ((LL.lawful T.the_type T'.the_laws 𝓛).typed r _ is).0) $
+          land ! (from ! (stop !)) (init ! 9 refl ((LL.lawful T.the_type T'.the_laws 𝓛).typed r _ is).0) $
+          assigns ! (of_opd ! (load ! (from ! (stop !)) (look ! 9 refl))) (from ! (hop ! (look ! 13 refl) (stop !))) (store_raw ! 1 refl ((LL.lawful T.the_type T'.the_laws 𝓛).typed r _ is).0) $
           assigns ! (of_opd ! (unit_lit !)) (from ! (stop !)) (init ! 15 refl (tt, tt)) $
           move ! (1 ∷ 0 ∷ []) $ closes ! tt R r (v ∷ []) b o $
           returns ! (look ! 13 refl) $ forget ! 5 refl $ forget ! 7 refl $ forget ! 9 refl $ forget ! 11 refl $ forget ! 13 refl $

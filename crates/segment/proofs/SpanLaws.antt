@@ -131,9 +131,6 @@ module _ (m : Measured) (g : Proximity) (side : Float) (sl : SmallLine m) (wd : 
       upward e = far false (span_aside side m.segment.p0.y m.segment.p1.y m.unit.y m.length g.size sl.ay sl.by sl.uy sl.length wd.size wd.most rows ir (row k) y e)
 
 -- the spans of all columns and rows leave nothing out
-pub all_inside : (k : ℕ) → k < 2 ^ 64 → (leb 0 (col k) && leb (col k) 4294967295 && (leb 0 (row k) && leb (row k) 4294967295)) ≡ true
-all_inside k h = rw (le-leb 0 (col k) (omega arith), le-leb (col k) 4294967295 (omega arith), le-leb 0 (row k) (omega arith), le-leb (row k) 4294967295 (omega arith)) refl
-
 -- what a prepared test answers: the spans do not show
 pub prepared_answer : (s : LineSegment) (g : Proximity) (t : NearTest) (k : ℕ) → k < 2 ^ 64 → Ready s g t → prepared t k ≡ near_by (measured_of s) g k
 prepared_answer s g t k h d = go (in_spans t k) refl

@@ -1,26 +1,19 @@
 -- The square of a distance: by the tests that pick its case; the model's distance is its root. Assumes nothing.
-use Rattle.std.proofs.Common.{◌≡◌, Bool, true, false, cond, T, refl, ap, ◌∙◌}
+use Rattle.std.proofs.Common.{◌≡◌, Bool, true, false, cond, T, refl}
 use lib.Ieee.{Float, binary64, lt, fits}
 use lib.Ieee.Fits.{add-fits}
 use Rattle.ieee.specs.Constants.{nought}
 use Rattle.ieee.specs.Root.{root_f}
 use Rattle.model.specs.Plane.{Pt, minus, times, over, dot, norm, tiny}
 use Rattle.model.specs.Segment.{distance}
-use Rattle.segment.specs.Squared.{along, measured_of, squared}
+use Rattle.segment.specs.Squared.{measured_of, squared}
 use Rattle.plane.specs.Values.{pt, vec}
 use Rattle.segment.specs.Values.{seg}
 use Rattle.segment.specs.declared.line.LineSegment.{LineSegment}
 use Rattle.segment.specs.declared.measured.Measured.{Measured}
-use Rattle.plane.specs.declared.point.Vector.{Vector}
 use Rattle.segment.proofs.SumOfSquares.{dot_not_below}
 
 -- a segment with what was worked out of it
-pub measured_is : (s : LineSegment) (l : Float) (u : Vector) → l ≡ norm (along s) → vec u ≡ over (along s) l → ◌≡◌ {A = Measured} (record { segment = s; length = l; unit = u }) (measured_of s)
-unfolding measured_of
-measured_is s l u e f =
-    ap (λ (p : Pt). record { segment = s; length = l; unit = record { x = p.x; y = p.y } }) f
-    ∙ ap (λ (n : Float). record { segment = s; length = n; unit = record { x = (over (along s) n).x; y = (over (along s) n).y } }) e
-
 -- ---- the four cases: a segment without length, before its first end, past its second, between
 module _ (m : Measured) (p v : Pt) (start : v ≡ minus p (pt m.segment.p0)) where
   pub square_short : lt m.length tiny ≡ true → dot v v ≡ squared m p

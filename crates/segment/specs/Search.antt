@@ -1,12 +1,11 @@
--- Between functions: `SearchF64` as the Rust's `Option<f64>`, and back: no value is kept as 0.0. Definitions only.
-use Rattle.std.specs.Prelude.{true, false, cond, Float}
+-- Between functions: `SearchF64` as the model's option, and back. Definitions only.
+use Rattle.std.specs.Prelude.{Some, None, Float}
 use Rattle.std.proofs.Math.Option.{Option, none, some}
-use Rattle.ieee.specs.Constants.{nought}
 use Rattle.segment.specs.declared.search.SearchF64.{SearchF64}
 
 abbrev pub held : SearchF64 → Option Float
-held s = cond s.found (some s.value) none
+held s = elim s.value [ None ↦ none | Some v ↦ some v ]
 
 abbrev pub kept : Option Float → SearchF64
-kept none = record { found = false; value = nought }
-kept (some v) = record { found = true; value = v }
+kept none = record { value = None }
+kept (some v) = record { value = Some v }

@@ -15,6 +15,7 @@ pub struct LineSegment {
 }
 
 // The Rust's `ArrayVec<f64, 2>`: how many, and two places, 0.0 where there is none.
+// No `Option` of places: the C interface returns this struct from `runcedau_vertical`.
 #[repr(C)]
 #[derive(Clone, Copy)]
 pub struct Crossings {
@@ -41,28 +42,18 @@ fn exchanged(s: LineSegment) -> LineSegment
 
 impl LineSegment {
     // The y values at x: none, one, or both ends' where the segment is upright.
+    #[tactic(auto, unfolding(model::specs::Segment::vertical_at, model::specs::Plane::tiny))]
     pub fn vertical_intersect(self, x: f64) -> Crossings
         ensures { result ≡ places (vertical_at (seg self) x) }
     {
         let a = self.p0;
         let b = self.p1;
-        if a.x > x {
-            if b.x > x {
-                return Crossings {
-                    count: 0,
-                    first: 0.0,
-                    second: 0.0,
-                };
-            }
-        }
-        if a.x < x {
-            if b.x < x {
-                return Crossings {
-                    count: 0,
-                    first: 0.0,
-                    second: 0.0,
-                };
-            }
+        if (a.x > x && b.x > x) || (a.x < x && b.x < x) {
+            return Crossings {
+                count: 0,
+                first: 0.0,
+                second: 0.0,
+            };
         }
         if ieee::pick::abs(b.x - a.x) < 1e-8 {
             return Crossings {
@@ -80,6 +71,7 @@ impl LineSegment {
     }
 
     // The x values at y.
+    #[tactic(auto, unfolding(model::specs::Segment::horizontal_at))]
     pub fn horizontal_intersect(self, y: f64) -> Crossings
         ensures { result ≡ places (horizontal_at (seg self) y) }
     {

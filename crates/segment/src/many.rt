@@ -21,6 +21,7 @@ pub struct NearTest {
 impl NearTest {
     // For as many cells: for one or two the spans are not worth their while. A little more than the limit is needed aside,
     // since the limit's own square is rounded.
+    #[tactic(auto, using(crate::proofs::SpanLaws::nothing_near))]
     pub fn new(s: LineSegment, proximity: Proximity, cells: usize) -> Self
         ensures { Ready s proximity result }
     {
@@ -41,17 +42,12 @@ impl NearTest {
         NearTest {
             line,
             proximity,
-            columns: Span {
-                low: 0,
-                high: 4294967295,
-            },
-            rows: Span {
-                low: 0,
-                high: 4294967295,
-            },
+            columns: spans::ALL,
+            rows: spans::ALL,
         }
     }
 
+    #[tactic(auto, using(crate::proofs::SpanLaws::or_sign))]
     pub fn passes(self, cell: u64) -> bool
         ensures { result ≡ prepared self cell }
     {
@@ -59,10 +55,6 @@ impl NearTest {
         let y = (cell % COLUMN) as u32;
         let out = spans::outside(x, self.columns.low, self.columns.high)
             | spans::outside(y, self.rows.low, self.rows.high);
-        if 9223372036854775808 <= out {
-            return false;
-        }
-        let line = self.line;
-        line.passes_near(self.proximity, cell)
+        out < 9223372036854775808 && self.line.passes_near(self.proximity, cell)
     }
 }

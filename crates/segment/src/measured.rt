@@ -17,6 +17,7 @@ pub(crate) struct Measured {
 }
 
 impl LineSegment {
+    #[tactic(auto, unfolding(crate::specs::Squared::measured_of))]
     pub(crate) fn measured(self) -> Measured
         ensures { result ≡ measured_of self }
     {
@@ -32,6 +33,7 @@ impl LineSegment {
         }
     }
 
+    #[tactic(auto, using(crate::proofs::SquaredLaws::distance_root))]
     pub fn distance_from_point(self, p: Point) -> f64
         ensures { result ≡ distance (seg self) (pt p) }
     {
@@ -42,6 +44,7 @@ impl LineSegment {
 impl Measured {
     // The square of the distance: what the root is taken of. All three squares are worked out before
     // one is picked, since where a point lies cannot be predicted and a wrong guess costs more.
+    #[tactic(auto, unfolding(crate::specs::Squared::squared, model::specs::Plane::tiny))]
     pub(crate) fn square_to(self, p: Point) -> f64
         ensures { result ≡ squared self (pt p) }
     {
@@ -57,10 +60,7 @@ impl Measured {
         let to_first = v.dot(v);
         let to_second = w.dot(w);
         let to_line = across.dot(across);
-        if length < 1e-8 {
-            return to_first;
-        }
-        if shadow < 0.0 {
+        if length < 1e-8 || shadow < 0.0 {
             return to_first;
         }
         if shadow > length {

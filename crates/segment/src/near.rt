@@ -23,6 +23,7 @@ pub struct Proximity {
 
 impl Proximity {
     // 1.4143 is slightly above the root of 2, so that no part of a cell further off is missed.
+    #[tactic(auto, unfolding(model::specs::Plane::bound))]
     pub fn new(size: f64, radius: f64) -> Self
         ensures { IsProximity size radius result }
     {
@@ -42,8 +43,7 @@ impl Measured {
         ensures { result ≡ near_by self proximity cell }
     {
         let size = proximity.size;
-        let mut i = 0;
-        while i < 4 {
+        for i in 0..4 {
             let q = self.square_to(corner(cell, i, size));
             if q < proximity.close {
                 return true;
@@ -51,7 +51,6 @@ impl Measured {
             if proximity.far <= q {
                 return false;
             }
-            i += 1;
         }
         let s = self.segment;
         meets::meets_cell(s, corner(cell, 0, size), corner(cell, 3, size))
@@ -59,6 +58,7 @@ impl Measured {
 }
 
 impl LineSegment {
+    #[tactic(auto, using(crate::proofs::NearLaws::near_is))]
     pub fn passes_near_cell(self, cell: u64, size: f64, radius: f64) -> bool
         ensures { result ≡ passes_near (seg self) cell size radius }
     {

@@ -18,14 +18,17 @@ pub(crate) struct Span {
     pub(crate) high: u32,
 }
 
+// All of them.
+pub(crate) const ALL: Span = Span {
+    low: 0,
+    high: u32::MAX,
+};
+
 // Of size 2 ^ 100 at most, so that nothing overflows.
 fn small(x: f64) -> bool
     ensures { result ≡ true → Small x }
 {
-    if -1267650600228229401496703205376.0 <= x && x <= 1267650600228229401496703205376.0 {
-        return true;
-    }
-    false
+    -1267650600228229401496703205376.0 <= x && x <= 1267650600228229401496703205376.0
 }
 
 pub(crate) fn small_line(m: Measured) -> bool
@@ -35,26 +38,27 @@ pub(crate) fn small_line(m: Measured) -> bool
     let a = s.p0;
     let b = s.p1;
     let u = m.unit;
-    if small(a.x) && small(a.y) && small(b.x) && small(b.y) {
-        if small(u.x) && small(u.y) && small(m.length) {
-            return true;
-        }
-    }
-    false
+    small(a.x)
+        && small(a.y)
+        && small(b.x)
+        && small(b.y)
+        && small(u.x)
+        && small(u.y)
+        && small(m.length)
 }
 
 // Whether a point that is `side` away along an axis is too far.
 pub(crate) fn wide(g: Proximity, side: f64) -> bool
     ensures { result ≡ true → Wide g side }
 {
-    if 0.0 <= side && g.close <= side * side && g.far <= side * side {
-        if 0.0 <= g.size && g.size <= 1267650600228229401496703205376.0 {
-            return true;
-        }
-    }
-    false
+    0.0 <= side
+        && g.close <= side * side
+        && g.far <= side * side
+        && 0.0 <= g.size
+        && g.size <= 1267650600228229401496703205376.0
 }
 
+// This and `first` stay apart: they differ in three comparisons, two signs and the end where each stops.
 // The last column to look at, for ends at a and b: x is where the next one begins.
 fn last(side: f64, a: f64, b: f64, drift: f64, size: f64) -> u32
     ensures { result < 4294967295 → Above side a b drift (edge_of size (result + 1)) }
@@ -84,36 +88,22 @@ fn first(side: f64, a: f64, b: f64, drift: f64, size: f64) -> u32
     0
 }
 
-// How far the segment goes up from its first end along an axis, and how far down.
-fn rise(u: f64, length: f64) -> f64
-    ensures { result ≡ up u length }
-{
-    if 0.0 < u {
-        return u * length;
-    }
-    0.0
-}
-
-fn fall(u: f64, length: f64) -> f64
-    ensures { result ≡ down u length }
-{
-    if u < 0.0 {
-        return u * length;
-    }
-    0.0
-}
-
 pub(crate) fn span_of(side: f64, a: f64, b: f64, u: f64, length: f64, size: f64) -> Span
     ensures { IsSpan side a b u length size result }
 {
+    // how far the segment goes from its first end along the axis: up, or down
+    let along = u * length;
+    let rise = if 0.0 < u { along } else { 0.0 };
+    let fall = if u < 0.0 { along } else { 0.0 };
     Span {
-        low: first(side, a, b, fall(u, length), size),
-        high: last(side, a, b, rise(u, length), size),
+        low: first(side, a, b, fall, size),
+        high: last(side, a, b, rise, size),
     }
 }
 
 // The top bit, where n is not in the span: a difference below zero has it. So one branch serves for four
 // tests, of which none can be predicted.
+#[tactic(auto, using(crate::proofs::SpanLaws::wrapped_sign, crate::proofs::SpanLaws::or_sign))]
 pub(crate) fn outside(n: u32, low: u32, high: u32) -> u64
     ensures { nat_lt result 9223372036854775808 ≡ (nat_le low n && nat_le n high) }
 {

@@ -12,46 +12,30 @@
 // answers 1 or 0, and no value.
 #![tactic(auto)]
 
-ghost use Rattle.std.specs.Prelude.{◌<◌};
-
 use plane::point::Point;
-use replay::patterns::{float_at, pattern_at, pattern_of};
+use replay::lines::{read_line, write_pattern};
+use replay::patterns::{float_at, pattern_at, pattern_of, point_at};
+use replay::program::{Program, run};
 use segment::line::{Crossings, LineSegment};
 use segment::search::SearchF64;
 use std::io;
 use std::io::{Read, Write};
 
-fn point_at(line: &[u8], from: usize) -> Point
-    requires { from < 121 }
-{
-    Point {
-        x: float_at(line, from),
-        y: float_at(line, from + 17),
-    }
-}
-
 // A search that has seen a value, or none yet.
 fn search_at(line: &[u8]) -> SearchF64 {
-    if pattern_at(line, 2) == 0 {
-        return SearchF64::new();
-    }
+    let seen = pattern_at(line, 2) != 0;
     SearchF64 {
-        found: true,
-        value: float_at(line, 19),
+        value: seen.then_some(float_at(line, 19)),
     }
 }
 
 // At most one value.
-fn single(found: bool, value: f64) -> Crossings {
+fn single(value: Option<f64>) -> Crossings {
     Crossings {
-        count: found as u8,
-        first: value,
+        count: value.is_some() as u8,
+        first: value.unwrap_or(0.0),
         second: 0.0,
     }
-}
-
-fn kept(s: SearchF64) -> Crossings {
-    single(s.found, s.value)
 }
 
 fn answer(function: u8, line: &[u8]) -> Crossings {
@@ -64,39 +48,36 @@ fn answer(function: u8, line: &[u8]) -> Crossings {
     match function {
         b'v' => s.vertical_intersect(a),
         b'h' => s.horizontal_intersect(a),
-        b'd' => single(true, s.distance_from_point(Point { x: a, y: b })),
-        b'n' => single(
-            s.passes_near_cell(pattern_at(line, 70), b, float_at(line, 104)),
-            0.0,
-        ),
-        b'l' => kept(search_at(line).least(float_at(line, 36))),
-        b'g' => kept(search_at(line).greatest(float_at(line, 36))),
-        _ => single(false, 0.0),
+        b'd' => single(Some(s.distance_from_point(Point { x: a, y: b }))),
+        b'n' => {
+            let near = s.passes_near_cell(pattern_at(line, 70), b, float_at(line, 104));
+            single(near.then_some(0.0))
+        }
+        b'l' => single(search_at(line).least(float_at(line, 36)).value),
+        b'g' => single(search_at(line).greatest(float_at(line, 36)).value),
+        _ => single(None),
     }
 }
 
-// One line, and whether there may be another.
-fn replay<R: Read, W: Write>(input: &mut R, output: &mut W) -> io::Result<bool> {
-    let mut line = [0u8; 121];
-    if !replay::lines::read_line(input, &mut line) {
-        return Ok(false);
+// Nothing is kept from line to line.
+#[derive(Drop)]
+struct Segments;
+
+impl Program for Segments {
+    fn replay<R: Read, W: Write>(&mut self, input: &mut R, output: &mut W) -> io::Result<bool> {
+        let Some(mut line) = read_line::<121, R>(input) else {
+            return Ok(false);
+        };
+        let given = answer(line[0], &line);
+        line[120] = b' ';
+        output.write_all(&line)?;
+        write_pattern(output, given.count as u64, b" ")?;
+        write_pattern(output, pattern_of(given.first), b" ")?;
+        write_pattern(output, pattern_of(given.second), b"\n")?;
+        Ok(true)
     }
-    let a = answer(line[0], &line);
-    line[120] = b' ';
-    output.write_all(&line)?;
-    replay::lines::write_pattern(output, a.count as u64, b" ")?;
-    replay::lines::write_pattern(output, pattern_of(a.first), b" ")?;
-    replay::lines::write_pattern(output, pattern_of(a.second), b"\n")?;
-    Ok(true)
 }
 
-// A proved loop has to end, and nothing says that the input does: the turns are counted down.
 fn main(rt: HostRuntime) -> io::Result<()> {
-    let mut input = rt.stdin();
-    let mut output = rt.stdout();
-    let mut turns = u64::MAX;
-    while turns > 0 && replay(&mut input, &mut output)? {
-        turns -= 1;
-    }
-    Ok(())
+    run(&mut Segments, &mut rt.stdin(), &mut rt.stdout())
 }

@@ -19,6 +19,7 @@ pub struct Circle {
 }
 
 // The Rust's closures, with the radius's square handed in.
+#[tactic(auto, unfolding(crate::specs::Circle::point_within))]
 fn point_inside(p: Point, square: f64, q: Point) -> bool
     ensures { result ≡ point_within (pt p) square (pt q) }
 {
@@ -27,23 +28,18 @@ fn point_inside(p: Point, square: f64, q: Point) -> bool
 }
 
 // The root is taken only where neither end is inside.
+#[tactic(auto, unfolding(crate::specs::Circle::line_within))]
 fn line_inside(p: Point, square: f64, p0: Point, p1: Point) -> bool
     ensures { result ≡ line_within (pt p) square (pt p0) (pt p1) }
 {
-    if point_inside(p, square, p0) {
-        return true;
-    }
-    if point_inside(p, square, p1) {
+    if point_inside(p, square, p0) || point_inside(p, square, p1) {
         return true;
     }
     let v = p1.minus(p0);
     let length = v.norm();
     let n = v.over(length);
     let s = p.minus(p0).dot(n);
-    if s <= 0.0 {
-        return false;
-    }
-    if length <= s {
+    if s <= 0.0 || length <= s {
         return false;
     }
     let dp = p0.plus(n.times(s)).minus(p);
@@ -52,6 +48,7 @@ fn line_inside(p: Point, square: f64, p0: Point, p1: Point) -> bool
 
 impl Circle {
     // 1.4142135623730951 is Rust's SQRT_2.
+    #[tactic(auto, unfolding(crate::specs::Circle::circle_of, model::specs::Plane::root2))]
     pub fn new(size: f64, p: Point, radius: f64) -> Circle
         ensures { result ≡ circle_of size (pt p) radius }
     {
@@ -72,36 +69,29 @@ impl Circle {
         ensures { result ≡ facing d (line_within (pt self.p) self.square (pt high) (pt b))
             (line_within (pt self.p) self.square (pt a) (pt low)) }
     {
-        let p = self.p;
-        let square = self.square;
         if d > 0.0 {
-            return line_inside(p, square, high, b);
+            return line_inside(self.p, self.square, high, b);
         }
-        if d < 0.0 {
-            return line_inside(p, square, a, low);
-        }
-        false
+        d < 0.0 && line_inside(self.p, self.square, a, low)
     }
 
     // The sides that face the circle, of the cell with the outer corners a and b.
+    #[tactic(auto, unfolding(crate::specs::Circle::sides_within))]
     fn sides_inside(self, dp: Vector, a: Point, b: Point) -> bool
         ensures { result ≡ sides_within (pt self.p) self.square (vec dp) (pt a) (pt b) }
     {
         let right = Point { x: b.x, y: a.y };
         let left = Point { x: a.x, y: b.y };
-        if self.facing_inside(dp.x, right, b, a, left) {
-            return true;
-        }
-        self.facing_inside(dp.y, left, b, a, right)
+        self.facing_inside(dp.x, right, b, a, left) || self.facing_inside(dp.y, left, b, a, right)
     }
 
     // Whether the circle meets the cell.
+    #[tactic(auto, using(crate::proofs::CircleLaws::meets_close, crate::proofs::CircleLaws::meets_far, crate::proofs::CircleLaws::meets_sides))]
     pub fn meets(self, cell: u64) -> bool
         ensures { result ≡ circle_meets self cell }
     {
         let size = self.size;
-        let p = self.p;
-        let dp = p.minus(cell::centre(cell, size));
+        let dp = self.p.minus(cell::centre(cell, size));
         let far = dp.dot(dp);
         if far < self.close {
             return true;

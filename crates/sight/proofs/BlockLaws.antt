@@ -1,5 +1,5 @@
 -- What blocks the points, written from the front. Assumes nothing.
-use Prim.Native.Nat.{ℕ, zero, suc, ◌+◌, ◌≤◌, ◌<◌, zero-le}
+use Prim.Native.Nat.{ℕ, zero, suc, ◌+◌, ◌≤◌, ◌<◌}
 use native.Mathlib.Nat.{le_of_suc-le-suc, not-suc-le-zero}
 use native.Mathlib.Omega.{arith}
 use mathlib.Core.Path.{◌≡◌, refl, sym, ap, ◌∙◌}
@@ -9,7 +9,7 @@ use mathlib.Core.Option.{Option, none}
 use lib.ListN.{length, drop, get_or, set, length-set}
 use lib.Ieee.{Float}
 use Rattle.table.proofs.ListedLaws.{keys_at}
-use Rattle.batches.proofs.WriteLaws.{listed_lengths}
+use Rattle.batches.proofs.ListedLaws.{flags_length}
 use Rattle.table.proofs.Front.{mix, mix_done, mix_more}
 use Rattle.marks.specs.Standing.{Small, Standing, mood, word}
 use Rattle.marks.specs.declared.mood.Mood.{Mood}
@@ -54,7 +54,7 @@ pub record Fits (confirmed full points moods : List ℕ) (n : ℕ) : Type 0 wher
 pub seeing_fits : {C : List ℕ} {ch : Batch} {S : Stood} {confirmed full points moods : List ℕ} → Seeing C ch S confirmed full points moods → Fits confirmed full points moods (length S)
 seeing_fits {C} {ch} {S} {confirmed} {full} {points} {moods} s =
     record {
-      changes = listed_lengths confirmed full ch s.confirmed_are s.full_are;
+      changes = ap length s.confirmed_are ∙ keys_length ch ∙ sym (ap length s.full_are ∙ flags_length ch);
       count = ap length s.points_are ∙ keys_length S;
       words = ap length s.moods_are ∙ words_length S;
     }
@@ -85,10 +85,6 @@ pub record Blocking (size radius : Float) (reach : ℕ) (C confirmed full points
   pub same : length out ≡ length out₀
   pub front : (ch : Batch) (S : Stood) (B : List (Option ℕ)) → Seeing C ch S confirmed full points moods → reach ≡ cell.reach (shift_of size radius) → old ≡ codes B → AllNamed B
       → out ≡ mix (codes (point_blocks (tests size radius) C ch B S)) out₀ i
-
-pub blocking_start : (size radius : Float) (reach : ℕ) (C confirmed full points moods old out₀ : List ℕ) → Blocking size radius reach C confirmed full points moods old out₀ 0 out₀
-blocking_start size radius reach C confirmed full points moods old out₀ =
-    record { inside = zero-le; same = refl; front = λ ch S B s n b a. refl }
 
 module _ {size radius : Float} {reach : ℕ} {C confirmed full points moods old out₀ : List ℕ} {i : ℕ} {out : List ℕ} (w : Blocking size radius reach C confirmed full points moods old out₀ i out) where
   -- the point at i, of this mood, begins with `start` and ends with r

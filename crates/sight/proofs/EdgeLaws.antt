@@ -1,5 +1,6 @@
 -- What blocks a pair after the changes, one by one. Assumes nothing.
-use Prim.Native.Nat.{ℕ, ◌+◌, ◌^◌, ◌≤◌, ◌<◌}
+use Prim.Native.Nat.{ℕ, ◌^◌, ◌≤◌, ◌<◌}
+use native.Mathlib.Decide.{ℕ_discrete}
 use native.Mathlib.Omega.{arith}
 use mathlib.Core.Path.{◌≡◌, refl, sym, ap, ◌∙◌}
 use mathlib.Core.Logic.{◌≢◌}
@@ -9,19 +10,21 @@ use mathlib.Core.Option.{Option, none, some}
 use borrow.Author.Tests.{eq-eqb, ne_eqb}
 use lib.Dec.{eqb}
 use lib.Ieee.{Float}
-use lib.ListN.{length, get_or}
-use Rattle.batches.proofs.WriteLaws.{Means, means_free, means_full}
-use Rattle.limits.specs.Batches.{flags}
+use lib.ListN.{length}
 use Rattle.model.specs.Batch.{Batch}
 use Rattle.model.specs.Good.{Inside}
 use Rattle.model.specs.Layer.{Tests, edge_after, edge_run}
 use Rattle.model.specs.Limits.{max_coordinate}
 use Rattle.model.specs.Map.{tests}
 use Rattle.model.specs.Maps.{AscL, keys}
-use Rattle.table.specs.Listed.{values}
 use Rattle.table.specs.Tables.{All}
 use Rattle.held.specs.Codes.{Named, block_code}
-use Rattle.sight.proofs.ChangeLaws as change
+use Rattle.sight.specs.Paired.{PairRuns}
+use Rattle.sight.specs.Run.{Ran, Turns}
+use Rattle.sight.proofs.ChangeLaws.{Follows, edge_steps, run_follows}
+use Rattle.segment.specs.Near.{IsProximity}
+use Rattle.segment.specs.declared.near.Proximity.{Proximity}
+use Rattle.std.specs.List.{zip}
 use Rattle.held.proofs.NamedLaws.{inside_named}
 use Rattle.looks.proofs.NamedLaws.{sweep_named}
 
@@ -57,63 +60,36 @@ run_named t C p q s [] a o n = n
 run_named t C p q s (e ∷ ch) a o n =
     run_named t C p q s ch a.1 (edge_after t C p q e.0 e.1 o) (after_named t C p q e.0 e.1 o s (inside_named e.0 a.0) n)
 
--- ---- the loop
--- the cells and the changes, as they are lent
-pub record Lent (C : List ℕ) (ch : Batch) (confirmed full : List ℕ) : Type 0 where
-  pub order : AscL 0 C
-  pub inside : All (Inside max_coordinate) C
-  pub changes : All (Inside max_coordinate) (keys ch)
-  pub confirmed_are : confirmed ≡ keys ch
-  pub full_are : full ≡ values (flags ch)
-
--- a prepared test answers as the model's
-abbrev pub Answers : Tests → ℕ → ℕ → (ℕ → Bool) → Type 0
-Answers t p q passes = (k : ℕ) → k < 2 ^ 64 → passes k ≡ t.near k p q
-
--- what is given of the cells and of the prepared test
-pub record Given (size radius : Float) (C : List ℕ) (p q : ℕ) (passes : ℕ → Bool) : Type 0 where
-  pub order : AscL 0 C
-  pub inside : All (Inside max_coordinate) C
-  pub answers : Answers (tests size radius) p q passes
-
--- the loop over the changes, for a pair
-abbrev pub Running : Float → Float → List ℕ → ℕ → ℕ → (ℕ → Bool) → List ℕ → List ℕ → ℕ → ℕ → ℕ → Type 0
-Running size radius C p q passes confirmed full start i block = change.Running (Given size radius C p q passes) (edge_run (tests size radius) C p q) confirmed full start i block
-
-pub running_start : (size radius : Float) (C : List ℕ) (p q : ℕ) (passes : ℕ → Bool) (confirmed full : List ℕ) (start : ℕ) → Running size radius C p q passes confirmed full start 0 start
-running_start size radius C p q passes confirmed full start = change.running_start (Given size radius C p q passes) (edge_run (tests size radius) C p q) confirmed full start
-
-module _ {size radius : Float} {C : List ℕ} {p q : ℕ} {passes : ℕ → Bool} {confirmed full : List ℕ} {start i block : ℕ} (w : Running size radius C p q passes confirmed full start i block) where
+-- ---- the loop over the changes, where one closure says whether the segment passes near a cell, and the other sweeps again
+module _ (size radius : Float) (proximity : Proximity) (C : List ℕ) (p q : ℕ) where
   abbrev t : Tests
   t = tests size radius
 
-  abbrev c : ℕ
-  c = get_or confirmed i 0
+  -- there are no changes
+  pub edge_none : (confirmed full : List ℕ) (start : ℕ) → length confirmed ≡ 0 → PairRuns size radius proximity C confirmed full p q start start
+  unfolding edge_run keys
+  edge_none confirmed full start z [] o order inside changes confirmed_are full_are g e n = e
+  edge_none confirmed full start z (x ∷ ch) o order inside changes confirmed_are full_are g e n = absurd (omega (arith, ap length confirmed_are))
 
-  -- the change at i makes r of the blocker
-  step : i < length confirmed → (u : Bool) → Means (get_or full i 0) u → (r : ℕ)
-      → ((o : Option ℕ) → AscL 0 C → All (Inside max_coordinate) C → Answers t p q passes → 2 ≤ c → block ≡ block_code o → r ≡ block_code (edge_after t C p q c u o))
-      → Running size radius C p q passes confirmed full start (i + 1) r
-  step h u s r f =
-      change.running_next (change.edge_steps t C p q) w r u h s
-      (λ g o k d. record {
-        code = f o g.order g.inside g.answers (inside_named c k) d.code;
-        named = after_named t C p q c u o (sweep_named size radius C p q g.inside) (inside_named c k) d.named;
-      })
+  module _ (meets : ℕ → ℕ → Bool → Type 0) (again : ℕ → Type 0) where
+    module _ (is_met : (b c : ℕ) (x : Bool) → meets b c x → c < 2 ^ 64 → x ≡ t.near c p q) (is_again : (r : ℕ) → again r → r ≡ block_code (t.sweep C p q).cell) (inside : All (Inside max_coordinate) C) where
+      follows : Follows meets again (edge_after t C p q)
+      follows c u o b r n w k = record { code = code u k; named = after_named t C p q c u o (sweep_named size radius C p q inside) (inside_named c n) w.named }
+        where
+          code : (u : Bool) → Turns meets again b (c, cond u 1 0) r → r ≡ block_code (edge_after t C p q c u o)
+          code false k = go (ℕ_discrete b c)
+            where
+              go : Dec (b ≡ c) → r ≡ block_code (edge_after t C p q c false o)
+              go (yes e) = is_again r ((k.0 refl).0 e) ∙ ap block_code (freed t C p q c o (inside_named c n) (sym w.code ∙ e))
+              go (no h) = (k.0 refl).1 h ∙ w.code ∙ ap block_code (kept t C p q c o (λ v. h (w.code ∙ v)))
+          code true k = let m = k.1 (λ z. absurd (omega arith)) in go m.0 (sym (is_met b c m.0 m.1 (omega arith))) m.2
+            where
+              go : (x : Bool) → t.near c p q ≡ x → r ≡ cond x c b → r ≡ block_code (edge_after t C p q c true o)
+              go true h e = e ∙ ap block_code (filled t C p q c o true h)
+              go false h e = e ∙ w.code ∙ ap block_code (filled t C p q c o false h)
 
-  pub running_freed : i < length confirmed → get_or full i 0 ≡ 0 → block ≡ c → (r : ℕ) → (AscL 0 C → All (Inside max_coordinate) C → r ≡ block_code (t.sweep C p q).cell)
-      → Running size radius C p q passes confirmed full start (i + 1) r
-  running_freed h e b r f = step h false (means_free e) r (λ o y a s n m. f y a ∙ ap block_code (freed t C p q c o n (sym m ∙ b)))
-
-  pub running_kept : i < length confirmed → get_or full i 0 ≡ 0 → block ≢ c → Running size radius C p q passes confirmed full start (i + 1) block
-  running_kept h e b = step h false (means_free e) block (λ o y a s n m. m ∙ ap block_code (kept t C p q c o (λ v. b (m ∙ v))))
-
-  pub running_passed : i < length confirmed → get_or full i 0 ≢ 0 → c < 2 ^ 64 → passes c ≡ true → Running size radius C p q passes confirmed full start (i + 1) c
-  running_passed h e l b = step h true (means_full e) c (λ o y a s n m. ap block_code (filled t C p q c o true (sym (s c l) ∙ b)))
-
-  pub running_missed : i < length confirmed → get_or full i 0 ≢ 0 → c < 2 ^ 64 → passes c ≡ false → Running size radius C p q passes confirmed full start (i + 1) block
-  running_missed h e l b = step h true (means_full e) block (λ o y a s n m. m ∙ ap block_code (filled t C p q c o false (sym (s c l) ∙ b)))
-
-  pub running_end : length confirmed ≤ i → (ch : Batch) (o : Option ℕ) → Lent C ch confirmed full → Answers t p q passes → start ≡ block_code o → Named o → block ≡ block_code (edge_run t C p q ch o)
-  running_end h ch o g a e n =
-      change.running_end (change.edge_steps t C p q) w h (record { order = g.order; inside = g.inside; answers = a }) ch o g.confirmed_are g.full_are g.changes e n
+    pub edge_ran : (confirmed full : List ℕ) (start r : ℕ) → Ran meets again (zip confirmed full) start r → (IsProximity size radius proximity → (b c : ℕ) (x : Bool) → meets b c x → c < 2 ^ 64 → x ≡ t.near c p q)
+        → ((r : ℕ) → again r → AscL 0 C → All (Inside max_coordinate) C → r ≡ block_code (t.sweep C p q).cell) → PairRuns size radius proximity C confirmed full p q start r
+    edge_ran confirmed full start r ran is_met is_again ch o order inside changes confirmed_are full_are g e n =
+        let f = follows (is_met g) (λ x m. is_again x m order inside) inside in
+        (run_follows (edge_run t C p q) (edge_after t C p q) (edge_steps t C p q) meets again f ch o start r changes (record { code = e; named = n }) (rw (confirmed_are, full_are) at ran)).code

@@ -1,5 +1,5 @@
 -- The pairs of the listed points, row by row. Assumes nothing.
-use Prim.Native.Nat.{ℕ, ◌+◌, ◌*◌, ◌≤◌, ◌<◌, zero-le}
+use Prim.Native.Nat.{ℕ, ◌+◌, ◌*◌, ◌≤◌, ◌<◌}
 use native.Mathlib.Omega.{arith}
 use mathlib.Core.Path.{◌≡◌, refl, sym, ap, ◌∙◌}
 use mathlib.Core.Bool.{Bool, true, false, ◌&&◌}
@@ -24,7 +24,7 @@ use Rattle.sight.specs.Paired.{Filled, PairIs, pair_at, pair_between, point_at}
 use Rattle.held.specs.Pairs.{Pairs, PairsBy, PairsNamed}
 use Rattle.sight.specs.Rows.{fore_place, up_to}
 use Rattle.sight.proofs.BlockLaws.{fitting_at, nobody, seeing_fits, words_at}
-use Rattle.sight.proofs.TableLaws.{filled_both, filled_end, filled_on, filled_over, filled_start}
+use Rattle.sight.proofs.TableLaws.{filled_both, filled_end, filled_on, filled_over}
 
 -- ---- the pair at two places
 within : (i j n : ℕ) → (i < j → n ≤ j) → (ltb i j && ltb j n) ≡ false
@@ -67,10 +67,10 @@ abbrev pub Reads : ℕ → Mood → Type 0
 Reads n m = (s : Standing) → Small s → n ≡ word s → m ≡ mood s
 
 module _ (size radius : Float) (proximity : Proximity) (C confirmed full points moods old : List ℕ) where
-  pub told_at : (i j : ℕ) (was other : Mood) (r : ℕ) → i < j → j < length points → Reads (get_or moods i 0) was → Reads (get_or moods j 0) other
-      → PairIs size radius proximity C confirmed full old (get_or points i 0) was (get_or points j 0) other r
+  pub told_at : (i j k : ℕ) (was : Mood) (l : ℕ) (other : Mood) (r : ℕ) → i < j → j < length points → (k ≡ get_or points i 0) × Reads (get_or moods i 0) was → (l ≡ get_or points j 0) × Reads (get_or moods j 0) other
+      → PairIs size radius proximity C confirmed full old k was l other r
       → (ch : Batch) (S : Stood) (P : PairsBy) → Joining size radius proximity C ch S P confirmed full points moods old → r ≡ pair_code (pair_at (tests size radius) C ch P S i j)
-  told_at i j was other r h l f g t ch S P w =
+  told_at i j k was l other r h m f g t ch S P w =
       let s = w.seeing in
       let n : length points ≡ length S = ap length s.points_are ∙ keys_length S in
       let hi : i < length S = omega arith in
@@ -79,13 +79,13 @@ module _ (size radius : Float) (proximity : Proximity) (C confirmed full points 
       let y = point_at S j in
       let fx = fitting_at S i nobody s.fitting hi in
       let fy = fitting_at S j nobody s.fitting hj in
-      let a : was ≡ mood x.1 = f x.1 fx.0 (ap (λ (m : List ℕ). get_or m i 0) s.moods_are ∙ words_at S i nobody hi) in
-      let b : other ≡ mood y.1 = g y.1 fy.0 (ap (λ (m : List ℕ). get_or m j 0) s.moods_are ∙ words_at S j nobody hj) in
-      let p : get_or points i 0 ≡ x.0 = ap (λ (m : List ℕ). get_or m i 0) s.points_are ∙ keys_at S i nobody.1 in
-      let q : get_or points j 0 ≡ y.0 = ap (λ (m : List ℕ). get_or m j 0) s.points_are ∙ keys_at S j nobody.1 in
+      let a : was ≡ mood x.1 = f.1 x.1 fx.0 (ap (λ (m : List ℕ). get_or m i 0) s.moods_are ∙ words_at S i nobody hi) in
+      let b : other ≡ mood y.1 = g.1 y.1 fy.0 (ap (λ (m : List ℕ). get_or m j 0) s.moods_are ∙ words_at S j nobody hj) in
+      let p : k ≡ x.0 = f.0 ∙ ap (λ (m : List ℕ). get_or m i 0) s.points_are ∙ keys_at S i nobody.1 in
+      let q : l ≡ y.0 = g.0 ∙ ap (λ (m : List ℕ). get_or m j 0) s.points_are ∙ keys_at S j nobody.1 in
       t ch P x.1 y.1 s.order s.inside s.changes s.confirmed_are s.full_are w.is_proximity w.pairs w.named a b fx.1 fy.1
-      ∙ ap (λ (k : ℕ). pair_code (pair_between (tests size radius) C ch P k x.1 (get_or points j 0) y.1)) p
-      ∙ ap (λ (k : ℕ). pair_code (pair_between (tests size radius) C ch P x.0 x.1 k y.1)) q
+      ∙ ap (λ (z : ℕ). pair_code (pair_between (tests size radius) C ch P z x.1 l y.1)) p
+      ∙ ap (λ (z : ℕ). pair_code (pair_between (tests size radius) C ch P x.0 x.1 z y.1)) q
       ∙ ap pair_code (sym (at_fore (tests size radius) C ch P S i j h hj))
 
   -- ---- a row, up to the j-th point
@@ -139,9 +139,6 @@ module _ (size radius : Float) (proximity : Proximity) (C confirmed full points 
     pub same : length t' ≡ length t
     pub done : (ch : Batch) (S : Stood) (P : PairsBy) → Joining size radius proximity C ch S P confirmed full points moods old
         → Pairs (λ a b. none) t → Filled (up_to (64 * i) (pair_at (tests size radius) C ch P S)) t t'
-
-  pub rows_start : (t : List ℕ) → Rows 0 t t
-  rows_start t = record { below = zero-le; same = refl; done = λ ch S P g s. filled_start (pair_at (tests size radius) C ch P S) t s }
 
   pub rows_more : (i : ℕ) (t t' t'' : List ℕ) → Rows i t t' → i < length points → length t'' ≡ length t'
       → ((ch : Batch) (S : Stood) (P : PairsBy) → Joining size radius proximity C ch S P confirmed full points moods old → Pairs (up_to (64 * i) (pair_at (tests size radius) C ch P S)) t'

@@ -8,3 +8,4 @@ pub mod NearLaws
 pub mod PairLaws
 pub mod PointLaws
 pub mod TableLaws
+pub mod RunLaws

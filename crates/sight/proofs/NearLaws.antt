@@ -1,10 +1,7 @@
--- Whether two cells are within reach, and what a prepared near test says of a cell. Assumes nothing.
-use Prim.Native.Nat.{◌<◌, ◌≤◌, ℕ}
-use mathlib.Core.Path.{◌∙◌, ◌≡◌, ap, refl}
-use mathlib.Core.Bool.{◌&&◌, false}
-use lib.Dec.{leb}
+-- What a prepared near test says of a cell. Assumes nothing.
+use Prim.Native.Nat.{◌^◌, ◌<◌, ℕ}
+use mathlib.Core.Path.{◌∙◌, ◌≡◌, ap}
 use lib.Ieee.{Float}
-use borrow.Author.Tests.{le-leb, lt-leb}
 use Rattle.model.specs.Map.{tests}
 use Rattle.model.specs.Plane.{Pt, centre}
 use Rattle.model.specs.Segment.{Seg, passes_near}
@@ -17,18 +14,10 @@ use Rattle.segment.specs.declared.line.LineSegment.{LineSegment}
 use Rattle.segment.specs.declared.many.NearTest.{NearTest}
 use Rattle.segment.specs.declared.near.Proximity.{Proximity}
 use Rattle.segment.proofs.SpanLaws.{prepared_near}
-use Rattle.sight.proofs.EdgeLaws.{Answers}
-
--- ---- two distances, each tested against a bound
-pub first_within : (x y d e n : ℕ) → d ≡ x → e ≡ y → d ≤ n → leb e n ≡ (leb x n && leb y n)
-first_within x y d e n p q h = rw (q, le-leb x n (rw p at h)) refl
-
-pub first_far : (x y d n : ℕ) → d ≡ x → n < d → false ≡ (leb x n && leb y n)
-first_far x y d n p h = rw (lt-leb x n (rw p at h)) refl
 
 -- what a prepared near test answers is what the model's test does
 pub prepared_answers : (size radius : Float) (p q : ℕ) (a b : Point) (s : LineSegment) (g : Proximity) (t : NearTest) → pt a ≡ centre size p → pt b ≡ centre size q → s.p0 ≡ a → s.p1 ≡ b → Ready s g t → IsProximity size radius g
-    → Answers (tests size radius) p q (prepared t)
+    → (k : ℕ) → k < 2 ^ 64 → prepared t k ≡ (tests size radius).near k p q
 unfolding tests
 prepared_answers size radius p q a b s g t e f x y r i k h =
     let u : pt s.p0 ≡ centre size p = ap pt x ∙ e in

@@ -7,7 +7,7 @@ use mathlib.Core.Bool.{Bool, true, false, cond, ◌&&◌, ◌||◌}
 use mathlib.Core.List.{List}
 use mathlib.Core.Option.{none, some}
 use borrow.Author.Tests.{eq-eqb, ne_eqb}
-use lib.Dec.{eqb, ltb}
+use lib.Dec.{eqb}
 use lib.Ieee.{Float}
 use lib.ListN.{get_or}
 use Rattle.marks.specs.Standing.{Standing, sooner}
@@ -25,16 +25,6 @@ use Rattle.sight.specs.Paired.{old_pair, pair_between, pair_start}
 use Rattle.sight.proofs.CodeLaws.{held_blocked, held_nothing, held_open, or_else_named, pair_blocked, pair_open}
 use Rattle.sight.proofs.EdgeLaws.{run_named}
 use Rattle.looks.proofs.NamedLaws.{sweep_named}
-
--- ---- queued before the other
-pub sooner_never : (a b : ℕ) → a ≡ 0 → false ≡ sooner a b
-sooner_never a b h = rw (eq-eqb a 0 h) refl
-
-pub sooner_first : (a b : ℕ) → a ≢ 0 → b ≡ 0 → true ≡ sooner a b
-sooner_first a b h g = rw (ne_eqb a 0 h, eq-eqb b 0 g) refl
-
-pub sooner_less : (a b : ℕ) → a ≢ 0 → b ≢ 0 → ltb a b ≡ sooner a b
-sooner_less a b h g = rw (ne_eqb a 0 h, ne_eqb b 0 g) refl
 
 -- ---- the old pair
 pub old_left : (P : PairsBy) (w v : Standing) → w.old ≡ 0 → 0 ≡ pair_code (old_pair P w v)

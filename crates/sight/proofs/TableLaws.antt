@@ -1,5 +1,5 @@
 -- The table of pairs while it is filled. Assumes nothing.
-use Prim.Native.Nat.{ℕ, ◌+◌, ◌-◌, ◌*◌, ◌≤◌, ◌<◌, zero-le}
+use Prim.Native.Nat.{ℕ, ◌+◌, ◌*◌, ◌≤◌, ◌<◌}
 use native.Mathlib.Decide.{ℕ_discrete}
 use native.Mathlib.Omega.{arith}
 use mathlib.Core.Path.{◌≡◌, refl, sym, ap, ◌∙◌, subst}
@@ -76,10 +76,7 @@ module _ (Q : PairsBy) where
           let d : fore_place a b ≢ 64 * i + j = apart i j a b h x y l p o in
           get_or-set_other (set t (64 * i + j) v) (64 * j + i) (64 * a + b) v 0 p ∙ get_or-set_other t (64 * i + j) (64 * a + b) v 0 o ∙ s a b x y ∙ ap pair_code (same d)
 
-  -- ---- from an empty table t
-  pub filled_start : (t : List ℕ) → Pairs (λ i j. none) t → Filled (up_to 0 Q) t t
-  filled_start t s = record { same = refl; pairs = λ a b x y. s a b x y ∙ ap pair_code (sym (up_out 0 a b zero-le)); rest = refl }
-
+  -- ---- a table t that is filled from an empty one
   pub filled_over : (t t' : List ℕ) (n n' : ℕ) → n ≤ n' → ((a b : ℕ) → a < 64 → b < 64 → n ≤ fore_place a b → fore_place a b < n' → Q a b ≡ none) → Filled (up_to n Q) t t' → Filled (up_to n' Q) t t'
   filled_over t t' n n' h f w = record { same = w.same; pairs = pass_over t' n n' h f w.pairs; rest = w.rest }
 

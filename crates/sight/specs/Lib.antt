@@ -2,3 +2,4 @@
 pub mod Blocked
 pub mod Paired
 pub mod Rows
+pub mod Run

@@ -3,4 +3,5 @@
 
 pub mod blocker;
 pub mod pair;
+mod run;
 mod within;

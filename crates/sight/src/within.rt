@@ -14,8 +14,5 @@ fn difference(a: u64, b: u64) -> u64
 pub(crate) fn within(a: u64, b: u64, reach: u64) -> bool
     ensures { result ≡ (leb (apart (col a) (col b)) reach && leb (apart (row a) (row b)) reach) }
 {
-    if difference(a / COLUMN, b / COLUMN) <= reach {
-        return difference(a % COLUMN, b % COLUMN) <= reach;
-    }
-    false
+    difference(a / COLUMN, b / COLUMN) <= reach && difference(a % COLUMN, b % COLUMN) <= reach
 }

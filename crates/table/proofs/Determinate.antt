@@ -1,5 +1,4 @@
 -- Any two outcomes that a copy's contract permits are equal. Assumes nothing.
-use Prim.Native.Nat.{ℕ}
 use mathlib.Core.Path.{◌≡◌, refl, sym, ◌∙◌}
 use mathlib.Core.Bool.{Bool, true, false}
 use mathlib.Core.List.{List}
@@ -8,7 +7,7 @@ use lib.ListN.{length}
 use borrow.Author.Tests.{ltb-false, ltb-true}
 use Rattle.table.specs.Copied.{Copied}
 
-pub copied_one : (l t a b : List ℕ) → Copied l t a → Copied l t b → a ≡ b
+pub copied_one : {A : Type 0} (l t a b : List A) → Copied l t a → Copied l t b → a ≡ b
 copied_one l t a b u v = go (ltb (length t) (length l)) refl
   where
     go : (s : Bool) → ltb (length t) (length l) ≡ s → a ≡ b

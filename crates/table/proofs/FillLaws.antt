@@ -1,4 +1,4 @@
--- A list filled with zeros from the front. Assumes nothing.
+-- A list filled with one value from the front. Assumes nothing.
 use Prim.Native.Nat.{ℕ, ◌+◌, ◌≤◌, ◌<◌, zero-le}
 use native.Mathlib.Omega.{arith}
 use mathlib.Core.Path.{◌≡◌, refl, sym, ap, ◌∙◌}
@@ -7,34 +7,33 @@ use lib.ListN.{length, replicate, set, get_or-replicate, length-replicate, lengt
 use lib.Seq.{drop-length}
 use Rattle.table.proofs.Front.{mix, mix_done, mix_more}
 
-abbrev pub filled : List ℕ → ℕ → List ℕ
-filled t i = mix (replicate (length t) 0) t i
+module _ {A : Type 0} (v : A) (t : List A) where
+  -- the first i are v
+  abbrev pub filled : ℕ → List A
+  filled i = mix (replicate (length t) v) t i
 
-pub filled_more : (t : List ℕ) (i : ℕ) → i < length t → set (filled t i) i 0 ≡ filled t (i + 1)
-filled_more t i h =
-    let z : List ℕ = replicate (length t) 0 in
-    let l : i < length z = rw (length-replicate {A = ℕ} (length t) 0) h in
-    ap (set (filled t i) i) (sym (get_or-replicate (length t) i 0 0 h)) ∙ mix_more z t i 0 l h
+  filled_more : (i : ℕ) → i < length t → set (filled i) i v ≡ filled (i + 1)
+  filled_more i h =
+      let z : List A = replicate (length t) v in
+      let l : i < length z = rw (length-replicate {A = A} (length t) v) h in
+      ap (set (filled i) i) (sym (get_or-replicate (length t) i v v h)) ∙ mix_more z t i v l h
 
-pub filled_done : (t : List ℕ) (i : ℕ) → i ≡ length t → filled t i ≡ replicate (length t) 0
-filled_done t i e =
-    mix_done (replicate (length t) 0) t i (length-replicate {A = ℕ} (length t) 0 ∙ sym e)
-    ∙ rw (e, drop-length t) (append-nil (replicate (length t) 0))
+  filled_done : (i : ℕ) → i ≡ length t → filled i ≡ replicate (length t) v
+  filled_done i e =
+      mix_done (replicate (length t) v) t i (length-replicate {A = A} (length t) v ∙ sym e)
+      ∙ rw (e, drop-length t) (append-nil (replicate (length t) v))
 
--- the first i are zeros
-pub record Clearing (t t' : List ℕ) (i : ℕ) : Type 0 where
-  pub inside : i ≤ length t
-  pub long : length t' ≡ length t
-  pub is : t' ≡ filled t i
+  pub record Filling (t' : List A) (i : ℕ) : Type 0 where
+    pub inside : i ≤ length t
+    pub long : length t' ≡ length t
+    pub is : t' ≡ filled i
 
-pub clearing_none : (t : List ℕ) → Clearing t t 0
-clearing_none t = record { inside = zero-le; long = refl; is = refl }
+  pub filling_none : Filling t 0
+  filling_none = record { inside = zero-le; long = refl; is = refl }
 
-module _ (t t' : List ℕ) (i : ℕ) (s : Clearing t t' i) where
-  pub clearing_more : i < length t' → Clearing t (set t' i 0) (i + 1)
-  clearing_more h =
-      let r : i < length t = omega (arith, s.long) in
-      record { inside = omega arith; long = length-set t' i 0 ∙ s.long; is = ap (λ (u : List ℕ). set u i 0) s.is ∙ filled_more t i r }
+  module _ (t' : List A) (i : ℕ) (s : Filling t' i) where
+    pub filling_more : i < length t → Filling (set t' i v) (i + 1)
+    filling_more h = record { inside = omega arith; long = length-set t' i v ∙ s.long; is = ap (λ (u : List A). set u i v) s.is ∙ filled_more i h }
 
-  pub clearing_done : length t' ≤ i → t' ≡ replicate (length t) 0
-  clearing_done h = s.is ∙ filled_done t i (omega (arith, s.inside, s.long))
+    pub filling_done : length t ≤ i → t' ≡ replicate (length t) v
+    filling_done h = s.is ∙ filled_done i (omega (arith, s.inside))

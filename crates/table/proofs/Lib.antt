@@ -1,10 +1,9 @@
 -- The laws of crate `table`.
 pub mod AllLaws
-pub mod Back
 pub mod ColumnLaws
-pub mod CopyLaws
 pub mod Determinate
 pub mod FillLaws
+pub mod FiveLaws
 pub mod Front
 pub mod ListedLaws
 pub mod LookLaws

@@ -12,10 +12,9 @@ use lib.ListN.{length, get_or}
 use lib.Pow.{pow-lt, pow_mono, pow_pos}
 use mir.Val.{bool_byte}
 use borrow.Author.Tests.{ltb-false, ltb-true}
-use Rattle.model.specs.Cell.{W}
 use Rattle.table.specs.Tables.{rank}
 use Rattle.table.proofs.RankLaws.{Between, rank_above, rank_below, rank_le}
-use Rattle.table.specs.Search.{Each, Looked, Placed, begun, looked}
+use Rattle.table.specs.Search.{Placed, begun, looked}
 
 -- ---- powers of two as the code makes them
 pub power_is : (s : ℕ) → s < 64 → 1 * 2 ^ s % 2 ^ 64 ≡ 2 ^ s
@@ -111,44 +110,3 @@ within_last_room k l at s z b =
 -- in an empty table
 pub placed_none : (l : List ℕ) → length l ≡ 0 → (k : ℕ) → Placed l k 0
 placed_none l e k = record { inside = zero-le; place = λ a. omega (arith, rank_le k l) }
-
--- ---- five searches at once
-each_map : (P Q : ℕ → ℕ → Type 0) (low a b c d e : ℕ) → ((k at : ℕ) → P k at → Q k at) → Each P low a b c d e → Each Q low a b c d e
-each_map P Q low a b c d e f x = (f low a x.0, f (low + W) b x.1, f (low + 2 * W) c x.2, f (low + 3 * W) d x.3, f (low + 4 * W) e x.4)
-
-pub record Searches (l : List ℕ) (low a b c d e s : ℕ) : Type 0 where
-  pub few : s < 64
-  pub each : Each (λ k at. Within k l at s) low a b c d e
-
-pub searches_first : (l : List ℕ) (low a b c d e s p : ℕ) → s < 64 → 2 ^ s ≤ length l → length l < 2 ^ (s + 1) → p ≡ 2 ^ s
-    → Each (λ k at. at ≡ begun l p k) low a b c d e → Searches l low a b c d e s
-searches_first l low a b c d e s p few h j q x = record {
-  few = few;
-  each = each_map (λ k at. at ≡ begun l p k) (λ k at. Within k l at s) low a b c d e (λ k at y. rw (y, q) (within_first k l s h j)) x;
-}
-
-pub searches_room : (l : List ℕ) (low a b c d e s : ℕ) → 0 < s → Searches l low a b c d e s → Each (λ k at. at + 2 ^ (s - 1) ≤ length l) low a b c d e
-searches_room l low a b c d e s p x = each_map (λ k at. Within k l at s) (λ k at. at + 2 ^ (s - 1) ≤ length l) low a b c d e (λ k at y. within_room k l at s p y) x.each
-
-pub searches_last_room : (l : List ℕ) (low a b c d e s : ℕ) → s ≤ 0 → Searches l low a b c d e s → Each (λ k at. at + 2 ^ 0 ≤ length l) low a b c d e
-searches_last_room l low a b c d e s z x = each_map (λ k at. Within k l at s) (λ k at. at + 2 ^ 0 ≤ length l) low a b c d e (λ k at y. within_last_room k l at s z y) x.each
-
-abbrev LookedAll : List ℕ → ℕ → ℕ → ℕ → ℕ → ℕ → ℕ → ℕ → ℕ → ℕ → ℕ → ℕ → ℕ → Type 0
-LookedAll l h low a b c d e a' b' c' d' e' =
-    Looked l h low a a' × Looked l h (low + W) b b' × Looked l h (low + 2 * W) c c' × Looked l h (low + 3 * W) d d' × Looked l h (low + 4 * W) e e'
-
-module _ (l : List ℕ) (low a b c d e a' b' c' d' e' s : ℕ) (x : Searches l low a b c d e s) where
-  pub searches_next : 0 < s → LookedAll l (2 ^ (s - 1)) low a b c d e a' b' c' d' e' → Searches l low a' b' c' d' e' (s - 1)
-  searches_next p y =
-      let f : (k at at' : ℕ) → Within k l at s → Looked l (2 ^ (s - 1)) k at at' → Within k l at' (s - 1) = λ k at at' w q. rw q (within_next k l at s p w) in
-      let w = x.each in
-      record {
-        few = omega (arith, x.few);
-        each = (f low a a' w.0 y.0, f (low + W) b b' w.1 y.1, f (low + 2 * W) c c' w.2 y.2, f (low + 3 * W) d d' w.3 y.3, f (low + 4 * W) e e' w.4 y.4);
-      }
-
-  pub searches_last : s ≤ 0 → LookedAll l (2 ^ 0) low a b c d e a' b' c' d' e' → Each (Placed l) low a' b' c' d' e'
-  searches_last z y =
-      let f : (k at at' : ℕ) → Within k l at s → Looked l (2 ^ 0) k at at' → Placed l k at' = λ k at at' w q. rw q (within_last k l at s z w) in
-      let w = x.each in
-      (f low a a' w.0 y.0, f (low + W) b b' w.1 y.1, f (low + 2 * W) c c' w.2 y.2, f (low + 3 * W) d d' w.3 y.3, f (low + 4 * W) e e' w.4 y.4)

@@ -1,43 +1,25 @@
 // Keys put into a table and taken out. The used part comes first, and the unused rest is zero.
 ghost use Rattle.std.specs.Prelude.{◌≡◌, ◌<◌, length};
 ghost use Rattle.model.specs.Maps.{cut};
-ghost use Rattle.table.specs.Tables.{Changed, added, put_at, shift_down, shift_up};
+ghost use Rattle.table.specs.Tables.{Changed, added, put_at, shift_down};
 
-use crate::place::{place, stands_at};
+use crate::place::find;
 
-// Every entry one place up, from the end down: the last is lost, the first stays.
-fn shift_up(t: &mut [u64])
-    ensures { t.new ≡ shift_up t.old }
-{
-    let mut i = t.len();
-    while 1 < i {
-        i -= 1;
-        t[i] = t[i - 1];
-    }
-}
-
-// Every entry one place down: the first is lost, and a zero is written last.
+// Every entry one place down: the first is lost, and the last is zero.
 fn shift_down(t: &mut [u64])
+    requires { 0 < length t.old }
     ensures { t.new ≡ shift_down t.old }
 {
-    if t.len() == 0 {
-        return;
-    }
-    let last = t.len() - 1;
-    let mut i = 0;
-    while i < last {
-        t[i] = t[i + 1];
-        i += 1;
-    }
-    t[last] = 0;
+    t.copy_within(1.., 0);
+    t[t.len() - 1] = 0;
 }
 
-// Puts k in at a place. Only the stretch from there onward is lent for shifting.
+// Puts k in at a place. What was there and after it moves one place up: the last is lost.
 fn put_at(t: &mut [u64], at: usize, k: u64)
     requires { at < length t.old }
     ensures { t.new ≡ put_at at k t.old }
 {
-    shift_up(&mut t[at..]);
+    t.copy_within(at..t.len() - 1, at + 1);
     t[at] = k;
 }
 
@@ -48,13 +30,11 @@ pub fn insert(t: &mut [u64], n: usize, k: u64) -> usize
     if t.len() <= n {
         return n;
     }
-    let at = place(&t[..n], k);
-    if stands_at(&t[..n], at, k) {
+    let Err(at) = find(&t[..n], k) else {
         return n;
-    }
-    let used = n + 1;
-    put_at(&mut t[..used], at, k);
-    used
+    };
+    put_at(&mut t[..n + 1], at, k);
+    n + 1
 }
 
 // Takes k out of the first n keys, if it is there. Returns how many keys there are then.
@@ -64,10 +44,9 @@ pub fn remove(t: &mut [u64], n: usize, k: u64) -> usize
     if t.len() < n {
         return n;
     }
-    let at = place(&t[..n], k);
-    if stands_at(&t[..n], at, k) {
-        shift_down(&mut t[at..n]);
-        return n - 1;
-    }
-    n
+    let Ok(at) = find(&t[..n], k) else {
+        return n;
+    };
+    shift_down(&mut t[at..n]);
+    n - 1
 }

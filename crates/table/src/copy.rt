@@ -1,28 +1,21 @@
-// Numbers written to the front of others, and zeros.
+// A list written to the front of another, and one value everywhere.
 ghost use Rattle.std.specs.Prelude.{◌≡◌, length, replicate};
 ghost use Rattle.table.specs.Copied.{Copied};
 
 // Nothing is written where there is no room.
-pub fn copy(from: &[u64], to: &mut [u64])
+pub fn copy<T: Copy>(from: &[T], to: &mut [T])
     ensures { Copied from.now to.old to.new }
 {
-    if to.len() < from.len() {
-        return;
-    }
-    let mut i = 0;
-    while i < from.len() {
-        to[i] = from[i];
-        i += 1;
+    if from.len() <= to.len() {
+        to[..from.len()].copy_from_slice(from);
     }
 }
 
-// All of it becomes zero.
-pub fn clear(t: &mut [u64])
-    ensures { t.new ≡ replicate (length t.old) 0 }
+// All of it becomes `value`.
+pub fn fill<T: Copy>(t: &mut [T], value: T)
+    ensures { t.new ≡ replicate (length t.old) value }
 {
-    let mut i = 0;
-    while i < t.len() {
-        t[i] = 0;
-        i += 1;
+    for x in t.iter_mut() {
+        *x = value;
     }
 }

@@ -3,7 +3,6 @@
 // an ascending one.
 #![tactic(auto)]
 
-pub mod bytes;
 pub mod change;
 pub mod column;
 pub mod copy;

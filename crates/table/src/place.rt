@@ -1,6 +1,7 @@
 // The place of a key in a table.
 ghost use Rattle.std.specs.Prelude.{◌≡◌, ◌≤◌, length};
 ghost use Rattle.model.specs.Maps.{AscL, has};
+ghost use Rattle.table.specs.Search.{Found};
 ghost use Rattle.table.specs.Tables.{rank, stands};
 
 use crate::look::{begin, exponent, look, power};
@@ -12,10 +13,9 @@ pub fn place(t: &[u64], k: u64) -> usize
     if t.len() == 0 {
         return 0;
     }
-    let mut s = exponent(t.len());
-    let mut at = begin(t, power(s), k);
-    while 0 < s {
-        s -= 1;
+    let first = exponent(t.len());
+    let mut at = begin(t, power(first), k);
+    for s in (0..first).rev() {
         at = look(t, at, s, k);
     }
     look(t, at, 0, k)
@@ -25,7 +25,19 @@ pub fn place(t: &[u64], k: u64) -> usize
 pub fn stands_at(t: &[u64], at: usize, k: u64) -> bool
     ensures { result ≡ stands k at t.now }
 {
-    if at < t.len() { k == t[at] } else { false }
+    at < t.len() && k == t[at]
+}
+
+// The place of k: where it is, or else where it would be.
+pub(crate) fn find(t: &[u64], k: u64) -> Result<usize, usize>
+    ensures { Found t.now k result }
+{
+    let here = place(t, k);
+    if stands_at(t, here, k) {
+        Ok(here)
+    } else {
+        Err(here)
+    }
 }
 
 pub fn contains(t: &[u64], k: u64) -> bool

@@ -6,12 +6,9 @@ use mathlib.Core.Bool.{true, false}
 use mathlib.Core.Option.{Option, none, some}
 use lib.Dec.{eqb}
 use borrow.Author.Tests.{eq-eqb, ne_eqb}
+use Rattle.answers.proofs.PointLaws.{block_free}
 use Rattle.model.specs.Answers.{free, open_edge}
 use Rattle.held.specs.Codes.{Named, NamedPair, block_code, pair_code}
-
-pub block_free : (o : Option ℕ) → Named o → free o ≡ eqb (block_code o) 0
-block_free none n = refl
-block_free (some k) n = sym (ne_eqb k 0 (λ e. omega arith))
 
 pub pair_open : (o : Option (Option ℕ)) → NamedPair o → open_edge o ≡ eqb (pair_code o) 1
 pair_open none n = refl

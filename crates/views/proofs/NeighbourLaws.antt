@@ -9,8 +9,9 @@ use lib.Ieee.{Float}
 use lib.IntN.{ℤ}
 use lib.ListN.{length, take}
 use lib.Seq.{length-take-le}
-use Rattle.answers.specs.Asking.{Front, HoldsSome, Written, refused_with}
-use Rattle.answers.specs.declared.judge.Count.{Count}
+use Rattle.std.specs.Prelude.{Ok}
+use Rattle.answers.specs.Asking.{Front, HoldsSome}
+use Rattle.answers.specs.Told.{counted}
 use Rattle.answers.proofs.ListingLaws.{listing_done}
 use Rattle.limits.proofs.FloorLaws.{holds_cells}
 use Rattle.model.specs.Answers.{free, neighbours}
@@ -29,7 +30,7 @@ use Rattle.views.proofs.AroundLaws.{Told}
 use Rattle.views.specs.Seen.{Beside, beside_lengths as lengths, refusal}
 use Rattle.views.proofs.CallLaws.{few_cells, key_inner, rooms}
 use Rattle.views.proofs.FreeLaws.{found_none, found_some}
-use Rattle.views.proofs.WroteLaws.{written_list, written_none}
+use Rattle.views.proofs.WroteLaws.{written_list}
 
 beside_is : (M : model.Map) (k : ℕ) (c r : Float) (C : List ℕ) → c ≡ M.size → r ≡ M.layer.radius → C ≡ M.cells
     → neighbours M k ≡ cond (free ((model.tests c r).square C k).cell) (steps c r C k) []
@@ -81,18 +82,15 @@ module _ {m : Map} {cells out : List ℕ} {x y : ℤ} (g : Going m cells out x y
 
     -- by what the square test found
     module _ (s : ℕ) (sq : AscL 0 used_cells → All (Inside max_coordinate) used_cells → s ≡ block_code ((model.tests m.size m.radius).square used_cells k).cell) where
-      listed : (out' : List ℕ) (r : Count) → r.refusal ≡ 0 → ((M : model.Map) → HoldsSome m (λ t. t.cells ≡ cells) M → Written M r.count (record { was = out; is = out'; wanted = λ M. neighbours M (key x y) } ∷ []))
-          → Beside m cells out x y out' r
-      listed out' r =
-          listing_done (refusal m (lengths cells out) x y) 0 (HoldsSome m (λ t. t.cells ≡ cells)) (record { was = out; is = out'; wanted = λ M. neighbours M (key x y) } ∷ []) r (sym g.pass) refl
+      listed : (out' : List ℕ) (n : ℕ) (l : List ℕ) → ((M : model.Map) → HoldsSome m (λ t. t.cells ≡ cells) M → (neighbours M k ≡ l) × Front l n out out') → Beside m cells out x y out' (counted (Ok n))
+      listed out' n l f =
+          listing_done (refusal m (lengths cells out) x y) (HoldsSome m (λ t. t.cells ≡ cells)) (record { was = out; is = out'; wanted = λ M. neighbours M (key x y) } ∷ []) n (sym g.pass)
+          (λ M h. let w = f M h in written_list n out out' (λ M. neighbours M (key x y)) M l (ap (neighbours M) (sym q) ∙ w.0) w.1)
 
-      pub taken_listed : (r : Count) → (s ≡ 0 → ⊥) → r ≡ refused_with 0 → Beside m cells out x y out r
-      taken_listed r f w =
-          listed out r (ap (λ (c : Count). c.refusal) w) (λ M h. written_none r out (λ M. neighbours M (key x y)) M w (ap (neighbours M) (sym q) ∙ none_beside m cells M h k s sq f))
+      pub taken_listed : (s ≡ 0 → ⊥) → Beside m cells out x y out (counted (Ok 0))
+      taken_listed f = listed out 0 [] (λ M h. (none_beside m cells M h k s sq f, (refl, refl)))
 
       pub steps_listed : (out' : List ℕ) (found : ℕ) → s ≡ 0 → (AscL 0 used_cells → All (Inside max_coordinate) used_cells → Front (steps m.size m.radius used_cells k) found out out')
-          → Beside m cells out x y out' (record { refusal = 0; count = found })
+          → Beside m cells out x y out' (counted (Ok found))
       steps_listed out' found f w =
-          listed out' (record { refusal = 0; count = found }) refl
-          (λ M h. let t = told m cells M h in
-          written_list found out out' (λ M. neighbours M (key x y)) M (steps m.size m.radius used_cells k) (ap (neighbours M) (sym q) ∙ some_beside m cells M h k s sq f) (w t.0 t.1))
+          listed out' found (steps m.size m.radius used_cells k) (λ M h. let t = told m cells M h in (some_beside m cells M h k s sq f, w t.0 t.1))

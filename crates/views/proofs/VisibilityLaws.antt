@@ -9,6 +9,8 @@ use lib.ListN.{drop, get_or, length, length-drop, take}
 use lib.Seq.{get_or-drop, get_or-take, length-take-le}
 use borrow.Author.Tests.{lt-ltb}
 use Rattle.answers.specs.Asking.{Front, HoldsSome}
+use Rattle.answers.specs.Told.{counted}
+use Rattle.std.specs.Prelude.{Ok}
 use Rattle.answers.proofs.ListingLaws.{listing_done}
 use Rattle.limits.proofs.FloorLaws.{holds_cells}
 use Rattle.held.specs.Layers.{blocks_of, edge_at, statuses_of}
@@ -91,9 +93,7 @@ module _ (m : Map) (t : Tables) (M : model.Map) (h : Holds m t M) (k : ℕ) wher
       unfolding from_point
       from_point_lem w more fits =
           let c : m.points ≡ length ps = h.layer.count in
-          let d : length (drop (64 * at) t.pairs) ≡ length t.pairs - 64 * at = length-drop (64 * at) t.pairs in
-          let b : length ps ≤ length (take w (drop (64 * at) t.pairs)) = rw (length-take-le w (drop (64 * at) t.pairs) (omega (arith, d, fits))) (omega (arith, c, more)) in
-          chosen true s ∙ sym (marked_open k M.layer.edges ps (take w (drop (64 * at) t.pairs)) b (tells w more)) ∙ rw (layer_keys h.layer) refl
+          chosen true s ∙ sym (marked_open k M.layer.edges ps (take w (drop (64 * at) t.pairs)) (tells w more)) ∙ rw (layer_keys h.layer) refl
 
     pub from_elsewhere_lem : stands k at own ≡ false → visible_from M k ≡ seen m.size m.radius (take m.cells t.cells) k ps
     unfolding from_elsewhere free_points
@@ -143,13 +143,13 @@ module _ {m : Map} {t : Tables} {out : List ℕ} {x y : ℤ} (g : Going m t out 
         (omega (arith, w, points_used), omega (arith, points_used, few, room.1.1.1.1.1.0))
 
   module _ (k : ℕ) (q : k ≡ key x y) (at : ℕ) (p : AscL 0 (take m.points t.points) → at ≡ rank k (take m.points t.points)) (out' : List ℕ) (found : ℕ) where
-    listed : (l : model.Map → List ℕ) → ((M : model.Map) → Holds m t M → (visible_from M k ≡ l M) × Front (l M) found out out') → InSight m t out x y out' (record { refusal = 0; count = found })
+    listed : (l : model.Map → List ℕ) → ((M : model.Map) → Holds m t M → (visible_from M k ≡ l M) × Front (l M) found out out') → InSight m t out x y out' (counted (Ok found))
     listed l f =
-        listing_done (refusal m (lengths t out) x y) 0 (HoldsSome m (λ u. u ≡ t)) (record { was = out; is = out'; wanted = λ M. visible_from M (key x y) } ∷ []) (record { refusal = 0; count = found }) (sym g.pass) refl refl
+        listing_done (refusal m (lengths t out) x y) (HoldsSome m (λ u. u ≡ t)) (record { was = out; is = out'; wanted = λ M. visible_from M (key x y) } ∷ []) found (sym g.pass)
         (λ M h. let v = f M (subst (λ (u : Tables). Holds m u M) h.2 h.1) in written_list found out out' (λ M. visible_from M (key x y)) M (l M) (ap (visible_from M) (sym q) ∙ v.0) v.1)
 
     pub paired_listed : stands k at (take m.points t.points) ≡ true → Front (marked (take m.points t.points) (take (64 * at + m.points - 64 * at) (drop (64 * at) t.pairs))) found out out'
-        → InSight m t out x y out' (record { refusal = 0; count = found })
+        → InSight m t out x y out' (counted (Ok found))
     paired_listed s f =
         listed (λ M. marked (take m.points t.points) (take (64 * at + m.points - 64 * at) (drop (64 * at) t.pairs)))
         (λ M h. (from_point_lem m t M h k at p s (64 * at + m.points - 64 * at) (omega arith) (omega (arith, (row_inside k at s).2)), f))
@@ -157,7 +157,7 @@ module _ {m : Map} {t : Tables} {out : List ℕ} {x y : ℤ} (g : Going m t out 
     pub seen_listed : stands k at (take m.points t.points) ≡ false
         → ((ps : Points) → AscL 0 (take m.cells t.cells) → All (Inside max_coordinate) (take m.cells t.cells) → take m.points t.points ≡ keys ps → take m.points t.statuses ≡ statuses_of ps
         → take m.points t.blockers ≡ codes (blocks_of ps) → AllNamed (blocks_of ps) → Front (seen m.size m.radius (take m.cells t.cells) k ps) found out out')
-        → InSight m t out x y out' (record { refusal = 0; count = found })
+        → InSight m t out x y out' (counted (Ok found))
     seen_listed s f =
         listed (λ M. seen m.size m.radius (take m.cells t.cells) k M.layer.points)
         (λ M h. let c = holds_cells t.cells m.cells M.cells h.cells in (

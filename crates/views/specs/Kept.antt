@@ -1,5 +1,6 @@
 -- Between functions: which cells the loops of crate `views` keep: `steps` is the model's `neighbours` where the square is free, `marked` its `from_point` and `seen` its `from_elsewhere` (occupancy/mod.rs, `neighbors`, `calculate_visibility`). Definitions only.
-use Rattle.std.specs.Prelude.{ℕ, ◌+◌, ◌*◌, ◌≤◌, ◌<◌, cond, ◌&&◌, List, [], ◌∷◌, eqb, Float}
+use Rattle.std.specs.Prelude.{ℕ, ◌+◌, ◌*◌, ◌≤◌, ◌<◌, ◌&&◌, List, eqb, get_or, Float}
+use Rattle.answers.specs.Walks.{picked}
 use Rattle.model.specs.Answers.{free}
 use Rattle.model.specs.Cell.{W, eight}
 use Rattle.model.specs.Corner.{sees}
@@ -16,10 +17,8 @@ abbrev pub steps : Float → Float → List ℕ → ℕ → List ℕ
 steps c r C k = sift (λ q. free ((tests c r).sweep C k q).cell) (eight k)
 
 -- the entries whose number is 1
-unfoldable pub marked : List ℕ → List ℕ → List ℕ
-marked [] row = []
-marked (x ∷ l) [] = []
-marked (x ∷ l) (c ∷ row) = let r = marked l row in cond (eqb c 1) (x ∷ r) r
+abbrev pub marked : List ℕ → List ℕ → List ℕ
+marked l row = picked (λ i. eqb (get_or row i 0) 1) l
 
 -- the points that nothing blocks, in whose visible quadrant k lies, with a free sweep from it
 abbrev pub seen : Float → Float → List ℕ → ℕ → Points → List ℕ

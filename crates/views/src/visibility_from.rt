@@ -2,8 +2,9 @@
 ghost use Rattle.std.specs.Prelude.{◌≡◌, ◌&&◌, ℕ, ◌≤◌, length};
 ghost use Rattle.std.proofs.Math.Option.{Option};
 ghost use Rattle.answers.specs.Asking.{Front};
-ghost use Rattle.held.specs.Holds.{tables_of};
+ghost use Rattle.answers.specs.Told.{counted};
 ghost use Rattle.held.specs.Layers.{blocks_of, statuses_of};
+ghost use Rattle.held.specs.Lent.{viewed};
 ghost use Rattle.model.specs.Answers.{free};
 ghost use Rattle.model.specs.Corner.{Bits, number, sees};
 ghost use Rattle.model.specs.Good.{Inside};
@@ -16,11 +17,14 @@ ghost use Rattle.table.specs.Tables.{All};
 ghost use Rattle.views.specs.Seen.{InSight};
 ghost use Rattle.views.specs.Kept.{marked, seen};
 
-use answers::judge::{Count, lacks, lacks_tables, off_edge, refuse, refused};
+use answers::judge::{off_edge, refuse};
+use answers::keep::keep;
 use held::map::Map;
+use held::tables::View;
 use limits::cell::Cell;
+use limits::refusal::Refusal;
 use looks::quadrant::sees;
-use looks::tests::sweep_between;
+use looks::tests::Ground;
 use sizes::POINTS;
 use table::place::{place, stands_at};
 
@@ -29,38 +33,21 @@ fn write_paired(points: &[u64], row: &[u64], out: &mut [u64]) -> usize
     requires { (length points.now ≤ length row.now) × (length points.now ≤ length out.old) }
     ensures { Front (marked points.now row.now) result out.old out.new }
 {
-    let mut n = 0;
-    let mut i = 0;
-    while i < points.len() {
-        if row[i] == 1 {
-            out[n] = points[i];
-            n += 1;
-        }
-        i += 1;
-    }
-    n
+    keep(points, out, |i| row[i] == 1)
 }
 
 // Whether a point of this status and blocker is seen from the cell k, which is none.
-fn is_seen(size: f64, radius: f64, cells: &[u64], k: u64, p: u64, status: u8, blocker: u64) -> bool
-    ensures { (b : Bits) (o : Option ℕ) → AscL 0 cells.now → All (Inside max_coordinate) cells.now
+fn is_seen(ground: Ground, k: u64, p: u64, status: u8, blocker: u64) -> bool
+    ensures { (b : Bits) (o : Option ℕ) → AscL 0 ground.entry.cells.now → All (Inside max_coordinate) ground.entry.cells.now
         → status ≡ number b → blocker ≡ block_code o → Named o
-        → result ≡ (free o && (sees k p b && free ((tests size radius).sweep cells.now k p).cell)) }
+        → result ≡ (free o && (sees k p b && free ((tests ground.entry.size ground.entry.radius).sweep ground.entry.cells.now k p).cell)) }
 {
-    if blocker != 0 {
-        return false;
-    }
-    if !sees(k, p, status) {
-        return false;
-    }
-    sweep_between(size, radius, cells, k, p) == 0
+    blocker == 0 && sees(k, p, status) && ground.sweep_between(k, p) == 0
 }
 
 // From any other cell.
 fn write_seen(
-    size: f64,
-    radius: f64,
-    cells: &[u64],
+    ground: Ground,
     points: &[u64],
     statuses: &[u8],
     blockers: &[u64],
@@ -68,68 +55,49 @@ fn write_seen(
     out: &mut [u64],
 ) -> usize
     requires { (length points.now ≤ length statuses.now) × (length points.now ≤ length blockers.now) × (length points.now ≤ length out.old) }
-    ensures { (ps : Points) → AscL 0 cells.now → All (Inside max_coordinate) cells.now
+    ensures { (ps : Points) → AscL 0 ground.entry.cells.now → All (Inside max_coordinate) ground.entry.cells.now
         → points.now ≡ keys ps → statuses.now ≡ statuses_of ps → blockers.now ≡ codes (blocks_of ps) → AllNamed (blocks_of ps)
-        → Front (seen size radius cells.now k ps) result out.old out.new }
+        → Front (seen ground.entry.size ground.entry.radius ground.entry.cells.now k ps) result out.old out.new }
 {
-    let mut n = 0;
-    let mut i = 0;
-    while i < points.len() {
-        if is_seen(size, radius, cells, k, points[i], statuses[i], blockers[i]) {
-            out[n] = points[i];
-            n += 1;
-        }
-        i += 1;
-    }
-    n
+    keep(
+        points,
+        out,
+        |i| is_seen(ground, k, points[i], statuses[i], blockers[i]),
+    )
 }
 
+// What is in sight of a cell: a point's open pairs, or what is seen from any other cell.
 pub fn visibility_from(
     map: Map,
-    cells: &[u64],
-    points: &[u64],
-    statuses: &[u8],
-    blockers: &[u64],
-    pairs: &[u64],
+    tables: View,
     cell: Cell,
     out: &mut [u64],
-) -> Count
-    ensures { InSight map (tables_of cells.now points.now statuses.now blockers.now pairs.now)
-        out.old cell.x cell.y out.new result }
+) -> Result<usize, Refusal>
+    ensures { InSight map (viewed tables.entry) out.old cell.x cell.y out.new (counted result) }
 {
-    let short = lacks_tables(
-        cells.len(),
-        points.len(),
-        statuses.len(),
-        blockers.len(),
-        pairs.len(),
-        lacks(out.len(), POINTS, false),
-    );
-    let number = refuse(short, map, off_edge(cell));
-    if number != 0 {
-        return refused(number);
-    }
+    let short = tables.is_short() || out.len() < POINTS;
+    refuse(short, map, off_edge(cell))?;
     let c = map.cells;
     let n = map.points;
     let k = cell.key();
-    let at = place(&points[..n], k);
-    let mut found = 0;
-    if stands_at(&points[..n], at, k) {
-        found = write_paired(&points[..n], &pairs[POINTS * at..POINTS * at + n], out);
-    } else {
-        found = write_seen(
-            map.size,
-            map.radius,
-            &cells[..c],
-            &points[..n],
-            &statuses[..n],
-            &blockers[..n],
-            k,
-            out,
-        );
+    let points = &tables.points[..n];
+    let at = place(points, k);
+    if stands_at(points, at, k) {
+        let row = &tables.pairs[POINTS * at..POINTS * at + n];
+        return Ok(write_paired(points, row, out));
     }
-    Count {
-        refusal: 0,
-        count: found,
-    }
+    let ground = Ground {
+        size: map.size,
+        radius: map.radius,
+        cells: &tables.cells[..c],
+    };
+    let found = write_seen(
+        ground,
+        points,
+        &tables.statuses[..n],
+        &tables.blockers[..n],
+        k,
+        out,
+    );
+    Ok(found)
 }

@@ -1,4 +1,5 @@
-// What is seen from a cell, and its neighbours, under C names. Each function is the call of that name, with its contract.
+// What is seen from a cell, and its neighbours, under C names. Each function is the call of that name, with its
+// contract, and its answer as C has it.
 #![tactic(auto)]
 
 ghost use Rattle.held.specs.Holds.{tables_of};
@@ -6,6 +7,7 @@ ghost use Rattle.views.specs.Seen.{Beside, InSight};
 
 use answers::judge::Count;
 use held::map::Map;
+use held::tables::View;
 use limits::cell::Cell;
 use views::neighbours::neighbours;
 use views::visibility_from::visibility_from;
@@ -15,7 +17,7 @@ use views::visibility_from::visibility_from;
 pub extern "C" fn runcedau_neighbours(map: Map, cells: &[u64], cell: Cell, out: &mut [u64]) -> Count
     ensures { Beside map cells.now out.old cell.x cell.y out.new result }
 {
-    neighbours(map, cells, cell, out)
+    Count::from(neighbours(map, cells, cell, out))
 }
 
 // The points in sight of a cell.
@@ -33,5 +35,12 @@ pub extern "C" fn runcedau_visibility(
     ensures { InSight map (tables_of cells.now points.now statuses.now blockers.now pairs.now)
         out.old cell.x cell.y out.new result }
 {
-    visibility_from(map, cells, points, statuses, blockers, pairs, cell, out)
+    let tables = View {
+        cells,
+        points,
+        statuses,
+        blockers,
+        pairs,
+    };
+    Count::from(visibility_from(map, tables, cell, out))
 }

@@ -1,32 +1,39 @@
 -- What a call of `change_cells` answers and leaves: refused by its input, for its cells, for its points, or done. Assumes nothing.
-use Prim.Native.Nat.{ℕ, suc, ◌≤◌, ◌<◌}
+use Rattle.std.specs.Prelude.{Result, Ok, Err, IsErrAnd}
+use Prim.Native.Nat.{ℕ, suc, ◌*◌, ◌≤◌, ◌<◌}
 use native.Mathlib.Nat.{suc-ne-zero}
 use native.Mathlib.Omega.{arith}
 use mathlib.Core.Path.{◌≡◌, refl, sym, ap, ◌∙◌, subst}
 use mathlib.Core.Logic.{◌⊎◌, ⊎_elim, inl, inr}
-use mathlib.Core.Bool.{Bool, true, false, cond, ◌||◌, or_assoc, or-false, or-true}
+use mathlib.Core.Bool.{Bool, true, false, cond, ◌||◌, or_assoc}
 use mathlib.Core.List.{List, [], ◌∷◌, ◌++◌}
 use lib.Dec.{ltb}
 use lib.IntN.{ℤ}
 use lib.ListN.{length, take}
+use lib.Seq.{length-take-le}
 use borrow.Author.Tests.{lt-ltb, le-ltb, ltb-false, ltb-true}
 use Rattle.limits.proofs.FloorLaws.{holds_cells}
 use Rattle.limits.specs.Floor as floor
 use Rattle.limits.specs.Batches.{entries, ragged}
 use Rattle.model.proofs.DueLaws.{passed, or_parts}
 use Rattle.model.specs.Batch.{cells_after}
-use Rattle.model.specs.Limits.{max_batch, max_cells, max_points}
+use Rattle.limits.specs.Refusals.{number}
+use Rattle.limits.specs.declared.refusal.Refusal.{Refusal}
+use Rattle.model.specs.Limits.{max_batch, max_cells, max_points, need_confirmed, need_corners}
 use Rattle.model.specs.Map as model
 use Rattle.model.specs.Maps.{AscL}
 use Rattle.model.specs.Refusal.{bad_radius, first_due, is_due, judge, outside, short, unsorted, verdict}
 use Rattle.visibility.specs.Change.{Changing, Lent, lent_needs, refuse_batch, refused_with}
-use Rattle.held.specs.Holds.{Holds}
+use Rattle.held.specs.Holds.{Holds, Tables}
+use Rattle.held.proofs.RoomLaws.{Enough, long_enough}
 use Rattle.visibility.specs.Update.{Updated, Updating, points_after}
+use Rattle.visibility.specs.Told.{changed_told}
+use Rattle.visibility.specs.declared.change.Change.{Change}
 use Rattle.visibility.specs.declared.change.Changed.{Changed}
 use Rattle.held.specs.declared.map.Map.{Map}
 use Rattle.visibility.proofs.AcceptedLaws.{next_cells}
 use Rattle.held.proofs.LayerLaws.{layer_few}
-use Rattle.visibility.proofs.RefuseLaws.{in_turn_lem, of_input, turn_some}
+use Rattle.visibility.proofs.RefuseLaws.{in_turn_lem, of_input, some_number, turn_some}
 
 -- ---- 9: two lists of lengths, one after the other
 short_append : (k l : List (ℕ × ℕ)) → short (k ++ l) ≡ short k || short l
@@ -34,11 +41,11 @@ unfolding short
 short_append [] l = refl
 short_append (b ∷ k) l = let x = ltb b.0 b.1 in ap (λ (y : Bool). x || y) (short_append k l) ∙ sym (or_assoc x (short k) (short l))
 
-pub short_either : (k l : List (ℕ × ℕ)) (x y s : Bool) → x ≡ short k → y ≡ short l → ((y ≡ true) × (s ≡ true)) ⊎ ((y ≡ false) × (s ≡ x)) → s ≡ short (k ++ l)
-short_either k l x y s p q w = ⊎_elim (λ z. z.1 ∙ sym (known true z.0 ∙ or-true (short k))) (λ z. z.1 ∙ p ∙ sym (known false z.0 ∙ or-false (short k))) w ∙ sym (short_append k l)
-  where
-    known : (b : Bool) → y ≡ b → short k || short l ≡ short k || b
-    known b z = ap (λ (a : Bool). short k || a) (sym q ∙ z)
+pub short_first : (k l : List (ℕ × ℕ)) (x : Bool) → x ≡ short k → x ≡ true → true ≡ short (k ++ l)
+short_first k l x p e = sym (short_append k l ∙ ap (λ (y : Bool). y || short l) (sym p ∙ e))
+
+pub short_rest : (k l : List (ℕ × ℕ)) (x : Bool) → x ≡ short k → x ≡ false → short l ≡ short (k ++ l)
+short_rest k l x p e = sym (short_append k l ∙ ap (λ (y : Bool). y || short l) (sym p ∙ e))
 
 -- ---- the refusals that apply
 -- a refusal that applies before cells and points are counted applies however many there are
@@ -104,19 +111,19 @@ module _ (m : Map) (b : List ℤ) (t t' : Lent) (r : Changed) where
   abbrev HoldsCells : List ℕ → Type 0
   HoldsCells C = floor.Holds t.tables.cells m.cells C
 
-  number : (n : ℕ) → r ≡ refused_with n → r.refusal ≡ n
-  number n f = ap (λ (a : Changed). a.refusal) f
+  numbered : (n : ℕ) → r ≡ refused_with n → r.refusal ≡ n
+  numbered n f = ap (λ (a : Changed). a.refusal) f
 
   -- a refusal that applies however many points there are, or of a map that comes with too many
   refuses : (n : ℕ) → (n ≡ 0 → ⊥) → r ≡ refused_with n → t' ≡ t → ((k : ℕ) → early ≡ suc k → n ≡ suc k) → (max_points < m.points → early ≡ 0 → (n ≡ 6) ⊎ (n ≡ 7))
       → ((C : List ℕ) → HoldsCells C → (p : Bool) → (max_points < m.points → p ≡ true) → n ≡ refuse_batch s m b (ltb max_cells (length (after C))) p) → Changing m b t t' r
   refuses n some f w first over due = record {
     input = λ k z. f ∙ ap refused_with (first k z);
-    overfull = λ g z. ⊎_elim (λ e. inl (number n f ∙ e)) (λ e. inr (number n f ∙ e)) (over g z);
-    packed = λ C h g. number n f ∙ due C h true (λ y. refl);
-    refusal = λ v M h. number n f ∙ due M.cells h.cells (ltb max_points (points_after M l)) (λ g. absurd (let k = layer_few h.layer in omega arith)) ∙ sym (judged m t M b v h);
-    refused = λ k z. (w, f ∙ ap refused_with (sym (number n f) ∙ z));
-    done = λ M h z. absurd (some (sym (number n f) ∙ z));
+    overfull = λ g z. ⊎_elim (λ e. inl (numbered n f ∙ e)) (λ e. inr (numbered n f ∙ e)) (over g z);
+    packed = λ C h g. numbered n f ∙ due C h true (λ y. refl);
+    refusal = λ v M h. numbered n f ∙ due M.cells h.cells (ltb max_points (points_after M l)) (λ g. absurd (let k = layer_few h.layer in omega arith)) ∙ sym (judged m t M b v h);
+    refused = λ k z. (w, f ∙ ap refused_with (sym (numbered n f) ∙ z));
+    done = λ M h z. absurd (some (sym (numbered n f) ∙ z));
   }
 
   pub early_refused : (n : ℕ) → (n ≡ 0 → ⊥) → n ≡ early → r ≡ refused_with n → t' ≡ t → Changing m b t t' r
@@ -167,7 +174,7 @@ module _ (m : Map) (b : List ℤ) (t t' : Lent) (r : Changed) where
           overfull = λ big z. absurd (let j : m.points ≤ max_points = few in omega arith);
           packed = λ C h big. absurd (let j : m.points ≤ max_points = few in omega arith);
           refusal = λ v M h. answer M h (ltb max_points (points_after M l)) refl ∙ sym (points_decide M.cells h.cells (ltb max_points (points_after M l))) ∙ sym (judged m t M b v h);
-          refused = λ n z. ⊎_elim (λ y. absurd (suc-ne-zero _ (sym z ∙ y))) (λ y. (y.1, y.0 ∙ ap refused_with (sym (number 7 y.0) ∙ z))) u.either;
+          refused = λ n z. ⊎_elim (λ y. absurd (suc-ne-zero _ (sym z ∙ y))) (λ y. (y.1, y.0 ∙ ap refused_with (sym (numbered 7 y.0) ∙ z))) u.either;
           done = λ M h z. u.done M (updating M h) (enough M h (ltb max_points (points_after M l)) refl z);
         }
           where
@@ -201,3 +208,53 @@ module _ (m : Map) (b : List ℤ) (t t' : Lent) (r : Changed) where
 
         pub room_updated : n ≡ 0 → Updated m l t t' r → Changing m b t t' r
         room_updated z u = let p = room_passed k m.points n q z in updated p.0 p.1 u
+
+-- ---- the call as the code has it: s is whether something is short
+module _ (m : Map) (b : List ℤ) (t : Lent) (s : Bool) (is_short : s ≡ short (lent_needs t)) where
+  judged_so : {n : ℕ} → n ≡ refuse_batch s m b (ltb max_cells m.cells) false → n ≡ refuse_batch (short (lent_needs t)) m b (ltb max_cells m.cells) false
+  judged_so h = h ∙ ap (λ (z : Bool). refuse_batch z m b (ltb max_cells m.cells) false) is_short
+
+  pub call_refused : (o : Result Change Refusal) (e : Refusal) → IsErrAnd o (λ x. x ≡ e) → number e ≡ refuse_batch s m b (ltb max_cells m.cells) false → Changing m b t t (changed_told o)
+  call_refused (Ok c) e u h = absurd u
+  call_refused (Err x) e u h = early_refused m b t t (refused_with (number x)) (number x) (some_number x) (ap number u ∙ judged_so h) refl refl
+
+  -- past the input's refusals
+  module _ (z : 0 ≡ refuse_batch s m b (ltb max_cells m.cells) false) where
+    past_so : Passed (short (lent_needs t)) m b
+    past_so = batch_passed (short (lent_needs t)) m b (sym (judged_so z))
+
+    pub call_long : Enough (lent_needs t)
+    call_long = long_enough (lent_needs t) past_so.long
+
+    -- k is how many cells there would be, of a view v of the tables
+    module _ (v : Tables) (same : v ≡ t.tables) (k : ℕ)
+        (count : AscL 0 (take m.cells v.cells) → unsorted (entries b) ≡ false → outside (entries b) ≡ false → k ≡ length (cells_after (model.to_batch (entries b)) (take m.cells v.cells))) where
+      count_so : AscL 0 (take m.cells t.tables.cells) → unsorted (entries b) ≡ false → outside (entries b) ≡ false → k ≡ length (cells_after (model.to_batch (entries b)) (take m.cells t.tables.cells))
+      count_so =
+          subst (λ (x : Tables). AscL 0 (take m.cells x.cells) → unsorted (entries b) ≡ false → outside (entries b) ≡ false → k ≡ length (cells_after (model.to_batch (entries b)) (take m.cells x.cells))) same count
+
+      pub call_crowded : (o : Result Change Refusal) (e : Refusal) → IsErrAnd o (λ x. x ≡ e) → number e ≡ verdict ((6, ltb max_cells k) ∷ (7, ltb max_points m.points) ∷ []) → Changing m b t t (changed_told o)
+      call_crowded (Ok c) e u h = absurd u
+      call_crowded (Err x) e u h = room_refused m b t t (refused_with (number x)) (judged_so z) k count_so (number x) (ap number u ∙ h) (some_number x) refl refl
+
+      pub call_updated : (t' : Lent) (r : Changed) → 0 ≡ verdict ((6, ltb max_cells k) ∷ (7, ltb max_points m.points) ∷ []) → Updated m (entries b) t t' r → Changing m b t t' r
+      call_updated t' r h u = room_updated m b t t' r (judged_so z) k count_so 0 h refl u
+
+    pub call_used : (v : Tables) → v ≡ t.tables → m.cells ≡ length (take m.cells v.cells)
+    call_used v same =
+        let x = call_long.0 in
+        let y = past_so.small in
+        let e : length v.cells ≡ length t.tables.cells = ap (λ (x : Tables). length x.cells) same in
+        sym (length-take-le m.cells v.cells (omega arith))
+
+    -- what the batch asks of the room N for corner changes, and of the rest
+    pub call_room : (k N : ℕ) → 9 * length (entries b) ≤ N → N ≤ need_corners → 0 ≡ verdict ((6, ltb max_cells k) ∷ (7, ltb max_points m.points) ∷ [])
+        → (m.cells ≤ max_cells) × (max_cells ≤ length t.tables.cells) × (m.points ≤ max_points) × (max_points ≤ length t.tables.points) × (max_points ≤ length t.tables.statuses) × (max_points ≤ length t.tables.blockers)
+        × (length (entries b) ≤ max_batch) × (9 * length (entries b) ≤ N) × (need_confirmed ≤ length t.confirmed) × (need_confirmed ≤ length t.full) × (need_corners ≤ length t.corners) × (need_corners ≤ length t.altered) × (N ≤ need_corners)
+    call_room k N few most h =
+        let n = call_long in
+        let o = n.1.1.1.1.1 in
+        (past_so.small, n.0, (room_passed k m.points 0 h refl).1, n.1.0, n.1.1.0, n.1.1.1.0, past_so.few, few, o.0, o.1.0, o.1.1.0, o.1.1.1.0, most)
+
+    pub call_few : 9 * length (entries b) ≤ need_corners
+    call_few = let x = past_so.few in omega arith

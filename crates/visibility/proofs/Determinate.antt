@@ -11,7 +11,10 @@ use lib.IntN.{ℤ}
 use lib.ListN.{drop, get_or, length}
 use lib.Seq.{ext_get_or, get_or-drop}
 use Rattle.ieee.proofs.Tools.{lt_or_ge}
+use Rattle.limits.proofs.RefusalLaws.{number_one, number_some}
 use Rattle.limits.specs.Floor as floor
+use Rattle.limits.specs.declared.refusal.Refusal.{Refusal}
+use Rattle.std.specs.Prelude.{Result, Ok, Err}
 use Rattle.limits.specs.Batches.{entries, ragged}
 use Rattle.model.specs.Limits.{max_cells, max_points}
 use Rattle.held.specs.Layers.{blocks_of, edge_at, statuses_of}
@@ -26,6 +29,8 @@ use Rattle.table.specs.Tables.{pad}
 use Rattle.visibility.specs.Open.{Opening}
 use Rattle.visibility.specs.Radius.{Rebuilding}
 use Rattle.visibility.specs.Radius as radius
+use Rattle.visibility.specs.Told.{changed_told}
+use Rattle.visibility.specs.declared.change.Change.{Change}
 use Rattle.visibility.specs.declared.change.Changed.{Changed}
 use Rattle.held.specs.declared.map.Map.{Map}
 use Rattle.held.specs.declared.map.Outcome.{Outcome}
@@ -154,3 +159,16 @@ module _ (m : Map) (r : Float) (t t₁ t₂ : Tables) (o₁ o₂ : Outcome) (x :
   pub radius_one : radius.Decided m r t → (t₁ ≡ t₂) × (o₁ ≡ o₂)
   radius_one (inl k) = resize_held k.0 k.1
   radius_one (inr k) = resize_refused k.0 (ap (λ (o : Outcome). o.refusal) (x.input k.0 k.1)) (ap (λ (o : Outcome). o.refusal) (y.input k.0 k.1))
+
+-- ---- what C gets of an answer is all of it
+abbrev refusal_of : Changed → ℕ
+refusal_of c = c.refusal
+
+abbrev change_of : Changed → Change
+change_of c = record { confirmed = c.confirmed; corners = c.corners; map = c.map }
+
+pub changed_told_one : (r q : Result Change Refusal) → changed_told r ≡ changed_told q → r ≡ q
+changed_told_one (Ok c) (Ok d) h = ap (λ (x : Change). Ok x) (ap change_of h)
+changed_told_one (Ok c) (Err f) h = absurd (number_some f (sym (ap refusal_of h)))
+changed_told_one (Err e) (Ok d) h = absurd (number_some e (ap refusal_of h))
+changed_told_one (Err e) (Err f) h = ap (λ (x : Refusal). Err x) (number_one e f (ap refusal_of h))

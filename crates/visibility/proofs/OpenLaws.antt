@@ -4,9 +4,10 @@ use native.Mathlib.Nat.{suc-ne-zero}
 use native.Mathlib.Omega.{arith}
 use mathlib.Core.Path.{◌≡◌, refl, sym, ap, ◌∙◌}
 use mathlib.Core.Bool.{Bool, true, false, cond}
-use mathlib.Core.List.{List, [], ◌∷◌, ◌++◌}
+use mathlib.Core.List.{List, [], ◌∷◌}
+use Rattle.std.specs.Prelude.{Result, Ok, Err, IsErrAnd}
 use lib.Ieee.{Float}
-use lib.ListN.{drop, length, replicate, take}
+use lib.ListN.{drop, length}
 use borrow.Author.Tests.{le-ltb}
 use Rattle.limits.proofs.FloorLaws.{holds_none}
 use Rattle.model.proofs.DueLaws.{passed}
@@ -16,12 +17,16 @@ use Rattle.model.specs.Map.{empty_layer, fresh}
 use Rattle.model.specs.Maps.{keys}
 use Rattle.model.specs.Refusal.{bad_radius, bad_size, first_due, is_due, opened, refuse_open, short, verdict}
 use Rattle.held.specs.Pairs.{Pairs, pair_place, pair_places}
-use Rattle.held.specs.Holds.{Tables, needs}
+use Rattle.held.specs.Holds.{Tables, needs, tables_of}
+use Rattle.held.specs.Told.{told}
 use Rattle.held.specs.Layers.{HoldsLayer, edge_at}
 use Rattle.visibility.specs.Open.{Opening, refused_with}
-use Rattle.held.specs.declared.map.Outcome.{Outcome}
-use Rattle.held.proofs.RoomLaws.{long_enough}
-use Rattle.visibility.proofs.ClearLaws.{cleared, cleared_at, cleared_behind, cleared_is, cleared_length, cleared_pad}
+use Rattle.held.specs.declared.map.Map.{Map}
+use Rattle.limits.specs.Refusals.{number}
+use Rattle.limits.specs.declared.refusal.Refusal.{Refusal}
+use Rattle.held.proofs.RoomLaws.{Enough, long_enough}
+use Rattle.visibility.proofs.ClearLaws.{cleared, cleared_at, cleared_behind, cleared_length, cleared_pad}
+use Rattle.visibility.proofs.RefuseLaws.{some_number}
 
 -- ---- the refusals in turn
 module _ (l : List (ℕ × ℕ)) (c r : Float) where
@@ -37,32 +42,30 @@ module _ (l : List (ℕ × ℕ)) (c r : Float) where
       pub open_passes : bad_radius c r ≡ false → 0 ≡ refuse_open l c r
       open_passes g = sym (in_turn_lem ∙ rw (e, f, g) refl)
 
--- what is answered is the first of these
-pub open_judged : (l : List (ℕ × ℕ)) (c r : Float) (s : Bool) (n : ℕ) → n ≡ verdict ((9, s) ∷ (1, bad_size c) ∷ (2, bad_radius c r) ∷ []) → s ≡ short l → n ≡ refuse_open l c r
-unfolding refuse_open
-open_judged l c r s n e f = e ∙ rw f refl
-
 -- and what is answered with 0 has passed
 pub open_passed : (l : List (ℕ × ℕ)) (c r : Float) → refuse_open l c r ≡ 0 → (short l ≡ false) × (bad_size c ≡ false) × (bad_radius c r ≡ false)
 unfolding refuse_open is_due
 open_passed l c r e = let p = passed _ e in (p 9 tt, p 1 tt, p 2 tt)
 
 -- a refused opening leaves the tables as they were
-pub open_refused : (c r : Float) (t : Tables) (n : ℕ) (o : Outcome) → (n ≡ 0 → ⊥) → o ≡ refused_with n → n ≡ refuse_open (needs t) c r → Opening c r t t o
-open_refused c r t n o some e h =
+pub open_refused : (c r : Float) (t : Tables) (o : Result Map Refusal) (e : Refusal) → IsErrAnd o (λ x. x ≡ e) → number e ≡ refuse_open (needs t) c r → Opening c r t t (told o)
+open_refused c r t (Ok m) e u h = absurd u
+open_refused c r t (Err x) e u h =
     record {
-      refusal = number ∙ h;
-      refused = λ k z. (refl, e ∙ ap refused_with (sym number ∙ z));
-      answer = λ z. absurd (never z);
-      holds = λ z. absurd (never z);
-      behind = λ z. absurd (never z);
+      refusal = ap number u ∙ h;
+      refused = λ k z. (refl, ap refused_with z);
+      answer = λ z. absurd (some_number x z);
+      holds = λ z. absurd (some_number x z);
+      behind = λ z. absurd (some_number x z);
     }
-  where
-    number : o.refusal ≡ n
-    number = ap (λ (w : Outcome). w.refusal) e
 
-    never : o.refusal ≡ 0 → ⊥
-    never z = some (sym number ∙ z)
+-- what is answered with no refusal has passed
+pub open_judged : (t : Tables) (c r : Float) (s : Bool) (n : ℕ) → n ≡ verdict ((9, s) ∷ (1, bad_size c) ∷ (2, bad_radius c r) ∷ []) → s ≡ short (needs t) → n ≡ refuse_open (needs t) c r
+unfolding refuse_open
+open_judged t c r s n e f = e ∙ rw f refl
+
+pub open_room : (t : Tables) (c r : Float) (s : Bool) → 0 ≡ verdict ((9, s) ∷ (1, bad_size c) ∷ (2, bad_radius c r) ∷ []) → s ≡ short (needs t) → Enough (needs t)
+open_room t c r s e f = long_enough (needs t) (open_passed (needs t) c r (sym (open_judged t c r s 0 e f))).0
 
 -- ---- the pairs of an empty layer
 cleared_pairs : (r : Float) (t : List ℕ) → Pairs (edge_at (empty_layer r)) (cleared pair_places t)
@@ -130,28 +133,10 @@ module _ (c r : Float) (t : Tables) (e : short (needs t) ≡ false) (f : bad_siz
       none_short : short [] ≡ false
       none_short = unfold short in refl
 
-  -- an accepted opening: each table's first places, filled with zeros
-  pub open_done : (cells points statuses blockers pairs : List ℕ)
-      → cells ≡ replicate (length (take max_cells t.cells)) 0
-      → points ≡ replicate (length (take max_points t.points)) 0
-      → statuses ≡ replicate (length (take max_points t.statuses)) 0
-      → blockers ≡ replicate (length (take max_points t.blockers)) 0
-      → pairs ≡ replicate (length (take pair_places t.pairs)) 0
-      → Opening c r t
-      (record {
-        cells = cells ++ drop max_cells t.cells;
-        points = points ++ drop max_points t.points;
-        statuses = statuses ++ drop max_points t.statuses;
-        blockers = blockers ++ drop max_points t.blockers;
-        pairs = pairs ++ drop pair_places t.pairs;
-      })
-      (record { refusal = 0; map = record { size = c; radius = r; cells = 0; points = 0 } })
-  open_done cells points statuses blockers pairs u v w x y =
-      let room = long_enough (needs t) e in
-      rw (
-        cleared_is max_cells t.cells cells room.0 u,
-        cleared_is max_points t.points points room.1.0 v,
-        cleared_is max_points t.statuses statuses room.1.1.0 w,
-        cleared_is max_points t.blockers blockers room.1.1.1.0 x,
-        cleared_is pair_places t.pairs pairs room.1.1.1.1.0 y,
-      ) all_cleared
+-- an accepted opening: each table's first places, filled with zeros
+pub open_done : (t : Tables) (c r : Float) (s : Bool) {cells points statuses blockers pairs : List ℕ} → 0 ≡ verdict ((9, s) ∷ (1, bad_size c) ∷ (2, bad_radius c r) ∷ []) → s ≡ short (needs t)
+    → cells ≡ cleared max_cells t.cells → points ≡ cleared max_points t.points → statuses ≡ cleared max_points t.statuses → blockers ≡ cleared max_points t.blockers → pairs ≡ cleared pair_places t.pairs
+    → Opening c r t (tables_of cells points statuses blockers pairs) (record { refusal = 0; map = record { size = c; radius = r; cells = 0; points = 0 } })
+open_done t c r s z f u v w x y =
+    let p = open_passed (needs t) c r (sym (open_judged t c r s 0 z f)) in
+    rw (u, v, w, x, y) (all_cleared c r t p.0 p.1 p.2)

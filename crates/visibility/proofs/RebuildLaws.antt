@@ -1,4 +1,5 @@
 -- A change of the radius: its refusals in their order, and the tables drawn from no old point, which hold the model's map afterwards. Assumes nothing.
+use Rattle.std.specs.Prelude.{Option, Some, None, Result, Ok, Err, IsErrAnd}
 use Prim.Native.Nat.{ℕ, suc, ◌≤◌, ◌<◌, zero-le}
 use native.Mathlib.Nat.{suc-ne-zero}
 use native.Mathlib.Omega.{arith}
@@ -7,6 +8,7 @@ use mathlib.Core.Bool.{Bool, true, false, cond, ◌||◌, true≢false}
 use mathlib.Core.List.{List, [], ◌∷◌}
 use lib.Ieee.{Float}
 use lib.ListN.{length, length-replicate, replicate, take}
+use lib.Seq.{length-take-le}
 use borrow.Author.Tests.{le-ltb, lt-ltb, ltb-false}
 use Rattle.corner.specs.Changes.{Cornered, numbered}
 use Rattle.corner.proofs.ChangeLaws.{inside_inner}
@@ -27,7 +29,6 @@ use Rattle.model.proofs.DueLaws.{passed}
 use Rattle.model.proofs.TestLaws.{lawful, tests_shift}
 use Rattle.sight.specs.Blocked.{Stood}
 use Rattle.table.specs.Listed.{Listed}
-use Rattle.table.specs.Tables.{pad}
 use Rattle.table.proofs.AllLaws.{all_map}
 use Rattle.table.proofs.ListedLaws.{listed_cells, listed_numbers}
 use Rattle.held.specs.Holds.{Behind, Holds, Tables, needs}
@@ -37,14 +38,17 @@ use Rattle.visibility.specs.Open.{refused_with}
 use Rattle.visibility.specs.Radius.{Rebuilding, refuse_radius}
 use Rattle.visibility.specs.Redraw.{Afresh, Drawing, Redrawn}
 use Rattle.held.specs.declared.map.Map.{Map}
-use Rattle.held.specs.declared.map.Outcome.{Outcome}
+use Rattle.held.specs.Told.{told}
+use Rattle.limits.specs.Refusals.{number}
+use Rattle.limits.specs.declared.refusal.Refusal.{Refusal}
+use Rattle.limits.specs.declared.refusal.Refusal.TheVariants.{ManyPoints}
 use Rattle.visibility.proofs.BorderLaws.{corners_bordered, corners_length}
 use Rattle.visibility.proofs.DrawnLaws.{drawn_behind, drawn_holds}
 use Rattle.visibility.proofs.RowLaws.{edges_below, layer_rows}
 use Rattle.held.proofs.LayerLaws.{layer_few}
 use Rattle.visibility.proofs.MarkLaws.{marked_count, marked_few, marked_keys, marked_many, marked_words, numbered_keys}
 use Rattle.held.proofs.RoomLaws.{Enough, long_enough}
-use Rattle.visibility.proofs.RefuseLaws.{in_turn, radius_turn, turn_none, turn_some}
+use Rattle.visibility.proofs.RefuseLaws.{in_turn, radius_turn, some_number, turn_none, turn_some}
 use Rattle.visibility.proofs.StoodLaws.{fitting, marking, stood_keys, stood_length}
 
 -- ---- what the input alone decides, and what the model says of a map that is held
@@ -74,24 +78,26 @@ module _ (m : Map) (r : Float) (t : Tables) where
     judged_points e b p = ap (λ (x : Bool). cond x 7 0) (sym p) ∙ turn_none before (cond (packed M') 7 0) refl (sym by_input ∙ e) ∙ sym judged
 
   -- a refused call leaves the tables as they were
-  rebuild_refused : (n : ℕ) (o : Outcome) → (n ≡ 0 → ⊥) → o ≡ refused_with n → ((k : ℕ) → refuse_radius (short (needs t)) m r ≡ suc k → n ≡ suc k)
-      → ((M : model.Map) → Holds m t M → n ≡ judge (needs t) (model.radius r) M (model.next (model.radius r) M)) → Rebuilding m r t t o
-  rebuild_refused n o f q input model =
+  rebuild_refused : (o : Result Map Refusal) (e : Refusal) → IsErrAnd o (λ x. x ≡ e) → ((k : ℕ) → refuse_radius (short (needs t)) m r ≡ suc k → number e ≡ suc k)
+      → ((M : model.Map) → Holds m t M → number e ≡ judge (needs t) (model.radius r) M (model.next (model.radius r) M)) → Rebuilding m r t t (told o)
+  rebuild_refused (Ok p) e u input model = absurd u
+  rebuild_refused (Err x) e u input model =
       record {
-        input = λ k e. q ∙ ap refused_with (input k e);
-        refusal = λ M h. number ∙ model M h;
-        refused = λ k z. (refl, q ∙ ap refused_with (sym number ∙ z));
-        answer = λ M h z. absurd (f (sym number ∙ z));
-        holds = λ M h z. absurd (f (sym number ∙ z));
-        behind = λ M h z. absurd (f (sym number ∙ z));
+        input = λ k z. ap refused_with (ap number u ∙ input k z);
+        refusal = λ M h. ap number u ∙ model M h;
+        refused = λ k z. (refl, ap refused_with z);
+        answer = λ M h z. absurd (some_number x z);
+        holds = λ M h z. absurd (some_number x z);
+        behind = λ M h z. absurd (some_number x z);
       }
-    where
-      number : o.refusal ≡ n
-      number = ap (λ (w : Outcome). w.refusal) q
 
   -- by the input
-  pub rebuild_input : (n : ℕ) (o : Outcome) → n ≡ refuse_radius (short (needs t)) m r → (n ≡ 0 → ⊥) → o ≡ refused_with n → Rebuilding m r t t o
-  rebuild_input n o e f q = rebuild_refused n o f q (λ k z. e ∙ z) (λ M h. judged_input h n e f)
+  pub rebuild_input : (o : Result Map Refusal) (e : Refusal) → IsErrAnd o (λ x. x ≡ e) → number e ≡ refuse_radius (short (needs t)) m r → Rebuilding m r t t (told o)
+  rebuild_input o e u q = rebuild_refused o e u (λ k z. q ∙ z) (λ M h. judged_input h (number e) q (some_number e))
+
+-- or it has passed
+pub rebuild_passed : (m : Map) (r : Float) (t : Tables) (s : Bool) → 0 ≡ refuse_radius s m r → s ≡ short (needs t) → refuse_radius (short (needs t)) m r ≡ 0
+rebuild_passed m r t s e f = sym (e ∙ ap (λ (x : Bool). refuse_radius x m r) f)
 
 or_right : (a b : Bool) → a || b ≡ false → b ≡ false
 or_right true b e = absurd (true≢false e)
@@ -117,6 +123,9 @@ module _ (m : Map) (r : Float) (t : Tables) (pass : refuse_radius (short (needs 
   pub rebuild_points : m.points ≤ max_points
   unfolding refuse_radius is_due
   rebuild_points = ltb-false max_points m.points (passed _ pass 7 tt)
+
+  pub rebuild_used : m.cells ≡ length (take m.cells t.cells)
+  rebuild_used = let k = rebuild_room.0 in let x = rebuild_cells in sym (length-take-le m.cells t.cells (omega arith))
 
   module _ {M : model.Map} (h : Holds m t M) where
     abbrev C : List ℕ
@@ -145,8 +154,7 @@ module _ (m : Map) (r : Float) (t : Tables) (pass : refuse_radius (short (needs 
     same_cells : take m.cells t.cells ≡ C
     same_cells = holds_cells t.cells m.cells C h.cells
 
-    module _ {corners altered present moods : List ℕ} {found shift n : ℕ} (f : Cornered (take m.cells t.cells) (replicate max_cells 0) corners (replicate max_cells 0) altered found)
-        (e : shift ≡ model.shift_of m.size r) (g : Marks shift [] [] (take found corners) (take found altered) (replicate max_points 0) present (replicate max_points 0) moods n) where
+    module _ {corners altered : List ℕ} {found : ℕ} (f : Cornered (take m.cells t.cells) (replicate max_cells 0) corners (replicate max_cells 0) altered found) where
       listed : Listed (numbered changed) (replicate max_cells 0) corners (replicate max_cells 0) altered found
       listed =
           let z : length C ≤ length (replicate {A = ℕ} max_cells 0) = rw (length-replicate {A = ℕ} max_cells 0) h.cells.room in
@@ -159,88 +167,89 @@ module _ (m : Map) (r : Float) (t : Tables) (pass : refuse_radius (short (needs 
           (listed_cells (numbered changed) (replicate max_cells 0) corners (replicate max_cells 0) altered found listed ∙ numbered_keys changed)
           (listed_numbers (numbered changed) (replicate max_cells 0) corners (replicate max_cells 0) altered found listed)
 
-      marked : Marks T.shift [] [] (take found corners) (take found altered) (replicate max_points 0) present (replicate max_points 0) moods n
-      marked =
-          subst (λ (v : ℕ). Marks v [] [] (take found corners) (take found altered) (replicate max_points 0) present (replicate max_points 0) moods n) (e ∙ sym (tests_shift m.size r)) g
+      marked : (present moods : List ℕ) (a : Option ℕ) {shift : ℕ} → shift ≡ model.shift_of m.size r → Marks shift [] [] (take found corners) (take found altered) (replicate max_points 0) present (replicate max_points 0) moods a
+          → Marks T.shift [] [] (take found corners) (take found altered) (replicate max_points 0) present (replicate max_points 0) moods a
+      marked present moods a e g =
+          subst (λ (v : ℕ). Marks v [] [] (take found corners) (take found altered) (replicate max_points 0) present (replicate max_points 0) moods a) (e ∙ sym (tests_shift m.size r)) g
 
-      many : max_points < n → max_points < length l'.points
-      many = marked_many changed closed tt given marked
+    -- where there are too many points
+    many : {corners altered : List ℕ} (present moods : List ℕ) {found shift : ℕ} → Cornered (take m.cells t.cells) (replicate max_cells 0) corners (replicate max_cells 0) altered found
+        → shift ≡ model.shift_of m.size r → Marks shift [] [] (take found corners) (take found altered) (replicate max_points 0) present (replicate max_points 0) moods None → max_points < length l'.points
+    many present moods f e g = marked_many changed closed tt (given f) present moods (marked f present moods None e g)
 
-      few : n ≤ max_points → length l'.points ≤ max_points
-      few = marked_few changed closed tt given marked
+    -- where there are n
+    module _ {corners altered : List ℕ} (present moods : List ℕ) {found shift : ℕ} (n : ℕ) (f : Cornered (take m.cells t.cells) (replicate max_cells 0) corners (replicate max_cells 0) altered found)
+        (e : shift ≡ model.shift_of m.size r) (g : Marks shift [] [] (take found corners) (take found altered) (replicate max_points 0) present (replicate max_points 0) moods (Some n)) where
+      few : length l'.points ≤ max_points
+      few = marked_few changed closed tt (given f) present moods n (marked f present moods (Some n) e g)
 
-      module _ (room : length l'.points ≤ max_points) where
-        count : n ≡ length l'.points
-        count = marked_count changed closed tt given marked room
+      count : n ≡ length l'.points
+      count = marked_count changed closed tt (given f) present moods n (marked f present moods (Some n) e g)
 
-        -- what the drawing is handed
-        drawing : Drawing C [] S [] [] [] present moods t.points t.statuses t.blockers n 0
-        unfolding keys
-        drawing =
-            let long = stood_length (marks T.shift changed) [] l'.points in
+      -- what the drawing is handed
+      drawing : Drawing C [] S [] [] [] (take n present) (take n moods) t.points t.statuses t.blockers 0
+      unfolding keys
+      drawing =
+          let long = stood_length (marks T.shift changed) [] l'.points in
+          record {
+            seeing = record {
+              order = h.cells.order;
+              inside = h.cells.inside;
+              changes = tt;
+              fitting = fitting changed closed tt zero-le corners_few;
+              confirmed_are = refl;
+              full_are = refl;
+              points_are = marked_keys changed closed tt (given f) present moods n (marked f present moods (Some n) e g) ∙ sym (stood_keys (marks T.shift changed) [] l'.points);
+              moods_are = marked_words changed closed tt (given f) present moods n (marked f present moods (Some n) e g);
+            };
+            few = rw long few;
+            blocks_are = refl;
+            blocks_named = tt;
+            points_room = rebuild_room.1.0;
+            statuses_room = rebuild_room.1.1.0;
+            blockers_room = rebuild_room.1.1.1.0;
+          }
+
+      module _ (t' : Tables) {reach : ℕ} (same : t'.cells ≡ t.cells) (v : reach ≡ cell.reach shift) (d : Afresh m.size r reach (take m.cells t.cells) [] [] (take n present) (take n moods) m.points t t') where
+        drawn : Redrawn T C [] S [] (edge_at (model.empty_layer r)) t.points t'.points t.statuses t'.statuses t.blockers t'.blockers t.pairs t'.pairs
+        drawn = subst (λ (u : List ℕ). Afresh m.size r reach u [] [] (take n present) (take n moods) m.points t t') same_cells d [] S (edge_at (model.empty_layer r)) (edge_at M.layer) (v ∙ ap cell.reach e) drawing (edges_below (model.empty_layer r))
+            (layer_rows h.layer)
+
+        held : HoldsLayer t'.points t'.statuses t'.blockers t'.pairs n l'
+        held = drawn_holds closed tt real few t t' drawn rebuild_room.1.1.1.1.0 n count
+
+        holds : Holds (record { size = m.size; radius = r; cells = m.cells; points = n }) t' (model.next (model.radius r) M)
+        unfolding model.next model.rebuilt update
+        holds =
             record {
-              seeing = record {
-                order = h.cells.order;
-                inside = h.cells.inside;
-                changes = tt;
-                fitting = fitting changed closed tt zero-le corners_few;
-                confirmed_are = refl;
-                full_are = refl;
-                points_are = refl;
-                moods_are = refl;
-              };
-              number = count ∙ sym long;
-              few = rw long room;
-              keys_are = marked_keys changed closed tt given marked room ∙ ap (pad max_points) (sym (stood_keys (marks T.shift changed) [] l'.points));
-              moods_are = marked_words changed closed tt given marked room;
-              blocks = refl;
-              blocks_named = tt;
-              points_room = rebuild_room.1.0;
-              statuses_room = rebuild_room.1.1.0;
-              blockers_room = rebuild_room.1.1.1.0;
+              size = h.size;
+              radius = refl;
+              cells = rw same h.cells;
+              layer = held;
+              good = subst (λ (z : ℕ). Good z C l') (tests_shift m.size r ∙ ap (λ (c : Float). model.shift_of c r) h.size) closed.good;
             }
 
-        module _ (t' : Tables) {reach : ℕ} (same : t'.cells ≡ t.cells) (v : reach ≡ cell.reach shift) (d : Afresh m.size r reach (take m.cells t.cells) [] [] present moods n m.points t t') where
-          drawn : Redrawn T C [] S [] (edge_at (model.empty_layer r)) t.points t'.points t.statuses t'.statuses t.blockers t'.blockers t.pairs t'.pairs
-          drawn = subst (λ (u : List ℕ). Afresh m.size r reach u [] [] present moods n m.points t t') same_cells d [] S (edge_at (model.empty_layer r)) (edge_at M.layer) (v ∙ ap cell.reach e) drawing (edges_below (model.empty_layer r))
-              (layer_rows h.layer)
-
-          held : HoldsLayer t'.points t'.statuses t'.blockers t'.pairs n l'
-          held =
-              drawn_holds closed tt real room t t' drawn rebuild_room.1.1.1.1.0 n count
-
-          holds : Holds (record { size = m.size; radius = r; cells = m.cells; points = n }) t' (model.next (model.radius r) M)
-          unfolding model.next model.rebuilt update
-          holds =
-              record {
-                size = h.size;
-                radius = refl;
-                cells = rw same h.cells;
-                layer = held;
-                good = subst (λ (z : ℕ). Good z C l') (tests_shift m.size r ∙ ap (λ (c : Float). model.shift_of c r) h.size) closed.good;
-              }
-
-          behind : Behind t t'
-          behind = drawn_behind closed tt real room t t' drawn (rw same refl)
+        behind : Behind t t'
+        behind = drawn_behind closed tt real few t t' drawn (rw same refl)
 
   -- ---- the call
-  module _ {corners altered present moods : List ℕ} {found shift n : ℕ} (f : Cornered (take m.cells t.cells) (replicate max_cells 0) corners (replicate max_cells 0) altered found)
-      (e : shift ≡ model.shift_of m.size r) (g : Marks shift [] [] (take found corners) (take found altered) (replicate max_points 0) present (replicate max_points 0) moods n) where
+  module _ {corners altered : List ℕ} (present moods : List ℕ) {found shift : ℕ} (f : Cornered (take m.cells t.cells) (replicate max_cells 0) corners (replicate max_cells 0) altered found) (e : shift ≡ model.shift_of m.size r) where
     -- too many points: nothing is altered
-    pub rebuild_packed : (o : Outcome) → max_points < n → o ≡ refused_with 7 → Rebuilding m r t t o
-    rebuild_packed o k q =
-        rebuild_refused m r t 7 o (suc-ne-zero _) q (λ i z. absurd (suc-ne-zero _ (sym z ∙ pass)))
-        (λ M h. judged_points m r t h pass true (lt-ltb max_points _ (many h f e g k)))
+    pub rebuild_packed : (o : Result Map Refusal) → Marks shift [] [] (take found corners) (take found altered) (replicate max_points 0) present (replicate max_points 0) moods None → (x : Refusal) → IsErrAnd o (λ y. y ≡ x) → x ≡ ManyPoints → Rebuilding m r t t (told o)
+    rebuild_packed o g x u q =
+        rebuild_refused m r t o x u (λ i z. absurd (suc-ne-zero _ (sym z ∙ pass)))
+        (λ M h. ap number q ∙ judged_points m r t h pass true (lt-ltb max_points _ (many h present moods f e g)))
 
     -- else the tables drawn anew
-    pub rebuild_done : (t' : Tables) (reach : ℕ) → t'.cells ≡ t.cells → n ≤ max_points → reach ≡ cell.reach shift → Afresh m.size r reach (take m.cells t.cells) [] [] present moods n m.points t t'
+    pub rebuild_done : (n : ℕ) (t' : Tables) (reach : ℕ) → Marks shift [] [] (take found corners) (take found altered) (replicate max_points 0) present (replicate max_points 0) moods (Some n)
+        → t'.cells ≡ t.cells → reach ≡ cell.reach shift → Afresh m.size r reach (take m.cells t.cells) [] [] (take n present) (take n moods) m.points t t'
         → Rebuilding m r t t' (record { refusal = 0; map = record { size = m.size; radius = r; cells = m.cells; points = n } })
-    rebuild_done t' reach same k v d =
+    rebuild_done n t' reach g same v d =
         record {
           input = λ i z. absurd (suc-ne-zero _ (sym z ∙ pass));
-          refusal = λ M h. judged_points m r t h pass false (le-ltb max_points _ (few h f e g k));
+          refusal = λ M h. judged_points m r t h pass false (le-ltb max_points _ (few h present moods n f e g));
           refused = λ i z. absurd (suc-ne-zero _ (sym z));
-          answer = λ M h z. ap (λ (i : ℕ). record { size = m.size; radius = r; cells = m.cells; points = i }) (count h f e g (few h f e g k));
-          holds = λ M h z. holds h f e g (few h f e g k) t' same v d;
-          behind = λ M h z. behind h f e g (few h f e g k) t' same v d;
+          answer = λ M h z. ap (λ (i : ℕ). record { size = m.size; radius = r; cells = m.cells; points = i }) (count h present moods n f e g);
+          holds = λ M h z. holds h present moods n f e g t' same v d;
+          behind = λ M h z. behind h present moods n f e g t' same v d;
         }

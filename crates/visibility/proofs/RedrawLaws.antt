@@ -5,7 +5,7 @@ use native.Mathlib.Omega.{arith}
 use mathlib.Core.Path.{◌≡◌, refl, sym, ap, ◌∙◌}
 use mathlib.Core.List.{List, [], ◌∷◌, ◌++◌}
 use mathlib.Core.Option.{Option}
-use lib.ListN.{length, take, drop, get_or, replicate, set, length-set}
+use lib.ListN.{length, length-replicate, drop, get_or, replicate, set, length-set}
 use Rattle.table.proofs.Front.{mix, mix_done, mix_more}
 use Rattle.marks.specs.Standing.{Small, Standing, mood, word}
 use Rattle.marks.specs.declared.mood.Mood.{Mood}
@@ -14,14 +14,14 @@ use Rattle.model.specs.Corner.{number, zero4}
 use Rattle.model.specs.Layer.{Tests}
 use Rattle.model.specs.Limits.{max_points}
 use Rattle.model.specs.Maps.{keys}
-use Rattle.sight.specs.Blocked.{Fitting, Seeing, Stood, point_blocks, words_of}
+use Rattle.sight.specs.Blocked.{Fitting, Stood, point_blocks, words_of}
 use Rattle.held.specs.Codes.{codes}
 use Rattle.sight.proofs.BlockLaws.{blocks_length, fitting_at, words_at, words_length}
 use Rattle.held.proofs.LayerLaws.{codes_length}
 use Rattle.table.specs.Copied.{Copied}
 use Rattle.table.specs.Tables.{pad}
 use Rattle.table.proofs.ListedLaws.{keys_length}
-use Rattle.table.proofs.TableLaws.{pad_length, pad_take}
+use Rattle.table.proofs.TableLaws.{pad_length}
 use Rattle.visibility.specs.Layers.{numbers_of}
 use Rattle.visibility.specs.Redraw.{Drawing, Drawn}
 use Rattle.held.proofs.PadLaws.{copied}
@@ -70,31 +70,19 @@ module _ (moods out out' : List ℕ) (i : ℕ) (room : length moods ≤ length o
       w.is S f e ∙ ap (mix (numbers_of S) out) j ∙ mix_done (numbers_of S) out (length S) (numbers_length S)
 
 -- ---- the three tables of the points
-module _ (t : Tests) (C : List ℕ) (ch : Batch) (S : Stood) (B : List (Option ℕ)) (confirmed full present moods points statuses blockers : List ℕ) (n count : ℕ)
-    (d : Drawing C ch S B confirmed full present moods points statuses blockers n count) where
-  front : take n present ≡ keys S
-  front =
-      let e : n ≡ length (keys S) = d.number ∙ sym (keys_length S) in
-      ap (λ (u : List ℕ). take n u) d.keys_are ∙ ap (λ (x : ℕ). take x (pad max_points (keys S))) e ∙ pad_take max_points (keys S)
-
-  pub seen : Seeing C ch S confirmed full (take n present) (take n moods)
-  seen = record {
-    order = d.seeing.order;
-    inside = d.seeing.inside;
-    changes = d.seeing.changes;
-    fitting = d.seeing.fitting;
-    confirmed_are = d.seeing.confirmed_are;
-    full_are = d.seeing.full_are;
-    points_are = front;
-    moods_are = d.moods_are;
-  }
-
-  module _ (newStatuses newBlockers points' statuses' blockers' : List ℕ)
-      (f : (S : Stood) → Fitting S → take n moods ≡ words_of S → newStatuses ≡ numbers_of S ++ drop (length S) (replicate max_points 0))
+module _ (t : Tests) (C : List ℕ) (ch : Batch) (S : Stood) (B : List (Option ℕ)) (confirmed full present moods points statuses blockers : List ℕ) (count : ℕ)
+    (d : Drawing C ch S B confirmed full present moods points statuses blockers count) where
+  module _ (newKeys newStatuses newBlockers points' statuses' blockers' : List ℕ) (k : Copied present (replicate max_points 0) newKeys)
+      (f : (S : Stood) → Fitting S → moods ≡ words_of S → newStatuses ≡ numbers_of S ++ drop (length S) (replicate max_points 0))
       (g : newBlockers ≡ codes (point_blocks t C ch B S) ++ drop (length S) (replicate max_points 0))
-      (a : Copied present points points') (b : Copied newStatuses statuses statuses') (e : Copied newBlockers blockers blockers') where
+      (a : Copied newKeys points points') (b : Copied newStatuses statuses statuses') (e : Copied newBlockers blockers blockers') where
+    keys_are_lem : newKeys ≡ pad max_points (keys S)
+    keys_are_lem =
+        let q : Copied (keys S) (replicate max_points 0) newKeys = rw d.seeing.points_are at k in
+        q.done (rw (length-replicate {A = ℕ} max_points 0, keys_length S) d.few) ∙ padded (keys S) (length (keys S)) max_points refl
+
     statuses_are_lem : newStatuses ≡ pad max_points (numbers_of S)
-    statuses_are_lem = f S d.seeing.fitting d.moods_are ∙ padded (numbers_of S) (length S) max_points (numbers_length S)
+    statuses_are_lem = f S d.seeing.fitting d.seeing.moods_are ∙ padded (numbers_of S) (length S) max_points (numbers_length S)
 
     blockers_are : newBlockers ≡ pad max_points (codes (point_blocks t C ch B S))
     blockers_are = g ∙ padded (codes (point_blocks t C ch B S)) (length S) max_points (codes_length (point_blocks t C ch B S) ∙ blocks_length t C ch B S)
@@ -106,7 +94,7 @@ module _ (t : Tests) (C : List ℕ) (ch : Batch) (S : Stood) (B : List (Option �
     drawn =
         let few = d.few in
         record {
-          keys_are = store (keys S) present points' points d.keys_are (rw (keys_length S) few) d.points_room a;
+          keys_are = store (keys S) newKeys points' points keys_are_lem (rw (keys_length S) few) d.points_room a;
           statuses_are = store (numbers_of S) newStatuses statuses' statuses statuses_are_lem (rw (numbers_length S) few) d.statuses_room b;
           blocks_are = store (codes (point_blocks t C ch B S)) newBlockers blockers' blockers blockers_are (rw (codes_length (point_blocks t C ch B S), blocks_length t C ch B S) few) d.blockers_room e;
         }

@@ -1,16 +1,21 @@
 -- A map's refusals in their order. Assumes nothing.
-use Prim.Native.Nat.{ℕ, suc, ◌≤◌, ◌<◌}
+use Rattle.std.specs.Prelude.{Option, Some, None, Err, ok_or}
+use Prim.Native.Nat.{ℕ, suc}
+use native.Mathlib.Omega.{arith}
 use mathlib.Core.Path.{◌≡◌, refl, sym, ◌∙◌}
-use mathlib.Core.Bool.{Bool, true, false, cond, ◌||◌, or-false}
+use mathlib.Core.Bool.{Bool, true, false, cond, ◌||◌}
 use mathlib.Core.List.{List, [], ◌∷◌, ◌++◌}
 use lib.Dec.{eqb, ltb}
 use lib.IntN.{ℤ}
 use lib.ListN.{length}
 use lib.Ieee.{Float}
-use borrow.Author.Tests.{eqb-false, lt-ltb, le-ltb}
+use borrow.Author.Tests.{eqb-false}
 use Rattle.limits.proofs.WordLaws.{judged}
 use Rattle.limits.specs.Batches as grid
+use Rattle.limits.specs.Refusals.{number}
 use Rattle.limits.specs.Words.{first_on, looked, unless_long, word_on}
+use Rattle.limits.specs.declared.refusal.Refusal.{Refusal}
+use Rattle.limits.specs.declared.refusal.Refusal.TheVariants.{CellSize, Radius, LongBatch, Disorder, OffMap, ManyCells, ManyPoints, BadQuestion, ShortTable, BadFile}
 use Rattle.model.proofs.DueLaws.{among, or_parts, refused}
 use Rattle.model.specs.Limits.{max_batch, max_cells, max_points}
 use Rattle.model.specs.Refusal.{bad_radius, bad_size, first_due, is_due, order, outside, short, verdict}
@@ -18,18 +23,23 @@ use Rattle.visibility.specs.Change.{refuse_batch}
 use Rattle.visibility.specs.Radius.{refuse_radius}
 use Rattle.held.specs.declared.map.Map.{Map}
 
--- ---- 9: a list of lengths with their needs
-pub short_first : (n need : ℕ) (l : List (ℕ × ℕ)) → n < need → true ≡ short ((n, need) ∷ l)
-unfolding short
-short_first n need l h = rw (lt-ltb n need h) refl
+-- ---- a refusal's number is not 0, which stands for none
+pub some_number : (e : Refusal) → number e ≡ 0 → ⊥
+some_number CellSize z = absurd (omega arith)
+some_number Radius z = absurd (omega arith)
+some_number LongBatch z = absurd (omega arith)
+some_number Disorder z = absurd (omega arith)
+some_number OffMap z = absurd (omega arith)
+some_number ManyCells z = absurd (omega arith)
+some_number ManyPoints z = absurd (omega arith)
+some_number BadQuestion z = absurd (omega arith)
+some_number ShortTable z = absurd (omega arith)
+some_number BadFile z = absurd (omega arith)
 
-pub short_next : (n need : ℕ) (l : List (ℕ × ℕ)) (b : Bool) → need ≤ n → b ≡ short l → b ≡ short ((n, need) ∷ l)
-unfolding short
-short_next n need l b h e = rw (le-ltb n need h) e
-
-pub short_last : (n need : ℕ) → ltb n need ≡ short ((n, need) ∷ [])
-unfolding short
-short_last n need = sym (or-false (ltb n need))
+-- ---- where there is none, the refusal is the one that was named
+pub named_refusal : {A : Type 0} (r : Option A) (e f : Refusal) → r ≡ None → Err f ≡ ok_or r e → f ≡ e
+named_refusal None e f z h = cc
+named_refusal (Some n) e f z h = absurd (cc)
 
 -- ---- the first refusal that is due, else n
 abbrev pub in_turn : List (ℕ × Bool) → ℕ → ℕ

@@ -1,12 +1,11 @@
 -- The table of pairs of which only the used rows are cleared, copied and written. Assumes nothing.
 use Prim.Native.Nat.{ℕ, ◌*◌, ◌≤◌, ◌<◌, zero-le}
-use native.Mathlib.Nat.{le_refl}
 use native.Mathlib.Omega.{arith}
 use mathlib.Core.Path.{◌≡◌, refl, sym, ap, ◌∙◌, subst}
 use mathlib.Core.Logic.{⊎_elim}
 use mathlib.Core.List.{List, [], ◌++◌, append-nil}
 use mathlib.Core.Option.{none}
-use lib.ListN.{get_or-eq_default, drop, drop_of_length-le, get_or, length, replicate, take}
+use lib.ListN.{get_or-eq_default, drop, drop_of_length-le, get_or, length, length-replicate, replicate, take}
 use lib.Seq.{get_or-take, length-take-le}
 use borrow.Author.Tests.{le-ltb}
 use Rattle.held.specs.Layers.{HoldsLayer, edge_at}
@@ -67,11 +66,14 @@ module _ (n : ℕ) (P : PairsBy) (t : List ℕ) (w : InRows n P t) where
           let b : n ≤ i = omega arith in
           get_or-eq_default (take k t) 0 e ∙ ap pair_code (sym (w.below i j b))
 
-  pub rows_copied : (v v' : List ℕ) → 64 * n ≤ length v → length v ≤ length t → Copied (take (length v) t) v v' → Pairs P v'
-  rows_copied v v' h l c =
-      let e : length (take (length v) t) ≡ length v = length-take-le (length v) t l in
-      let a : v' ≡ take (length v) t = c.done (rw e (le_refl (length v))) ∙ rw (e, drop_of_length-le v (le_refl (length v))) (append-nil (take (length v) t)) in
-      rw a (rows_kept (length v) h l)
+  pub rows_copied : (k : ℕ) (v : List ℕ) → 64 * n ≤ k → k ≤ length t → Copied (take k t) (replicate k 0) v → Pairs P v
+  rows_copied k v h l c =
+      let z : List ℕ = replicate k 0 in
+      let e : length (take k t) ≡ k = length-take-le k t l in
+      let f : length z ≡ k = length-replicate {A = ℕ} k 0 in
+      let b : length z ≤ k = omega (arith, f) in
+      let a : v ≡ take k t = c.done (omega (arith, e, f)) ∙ rw (e, drop_of_length-le z {i = k} b) (append-nil (take k t)) in
+      rw a (rows_kept k h l)
 
 -- ---- a layer's pairs are in the rows of its points
 pub edges_below : (l : Layer) → Below (length l.points) (edge_at l)

@@ -9,20 +9,17 @@ use Rattle.model.specs.Map.{shift_of, tests}
 use Rattle.model.specs.Maps.{keys}
 use Rattle.held.specs.Codes.{AllNamed, codes}
 use Rattle.held.specs.Holds.{Tables}
-use Rattle.sight.specs.Blocked.{Seeing, Stood, point_blocks, words_of}
+use Rattle.sight.specs.Blocked.{Seeing, Stood, point_blocks}
 use Rattle.sight.specs.Paired.{Filled, pair_at}
 use Rattle.held.specs.Pairs.{Pairs, PairsBy, PairsNamed, pair_places}
 use Rattle.table.specs.Tables.{pad}
 use Rattle.visibility.specs.Layers.{numbers_of}
 
--- what is handed in: the points S as two lists, of which the unused rest is zero, and the old blockers B
-pub record Drawing (C : List ℕ) (ch : Batch) (S : Stood) (B : List (Option ℕ)) (confirmed full present moods points statuses blockers : List ℕ) (n count : ℕ) : Type 0 where
-  pub seeing : Seeing C ch S confirmed full (keys S) (words_of S)
-  pub number : n ≡ length S
+-- what is handed in: the points S as two lists, and the old blockers B
+pub record Drawing (C : List ℕ) (ch : Batch) (S : Stood) (B : List (Option ℕ)) (confirmed full present moods points statuses blockers : List ℕ) (count : ℕ) : Type 0 where
+  pub seeing : Seeing C ch S confirmed full present moods
   pub few : length S ≤ max_points
-  pub keys_are : present ≡ pad max_points (keys S)
-  pub moods_are : take n moods ≡ words_of S
-  pub blocks : take count blockers ≡ codes B
+  pub blocks_are : take count blockers ≡ codes B
   pub blocks_named : AllNamed B
   pub points_room : max_points ≤ length points
   pub statuses_room : max_points ≤ length statuses
@@ -58,15 +55,15 @@ ReplacesPairs size radius C confirmed full present moods count pairs pairs' =
     → Filled (pair_at (tests size radius) C ch P S) pairs pairs'
 
 -- the layer's tables t', over those t of `count` points; the cells of either do not matter
-abbrev pub Redraws : Float → Float → ℕ → List ℕ → List ℕ → List ℕ → List ℕ → List ℕ → ℕ → ℕ → Tables → Tables → Type 0
-Redraws size radius reach C confirmed full present moods n count t t' =
+abbrev pub Redraws : Float → Float → ℕ → List ℕ → List ℕ → List ℕ → List ℕ → List ℕ → ℕ → Tables → Tables → Type 0
+Redraws size radius reach C confirmed full present moods count t t' =
     (ch : Batch) (S : Stood) (B : List (Option ℕ)) (P : PairsBy) → reach ≡ cell.reach (shift_of size radius)
-    → Drawing C ch S B confirmed full present moods t.points t.statuses t.blockers n count → PairsNamed P → InRows count P t.pairs
+    → Drawing C ch S B confirmed full present moods t.points t.statuses t.blockers count → PairsNamed P → InRows count P t.pairs
     → Redrawn (tests size radius) C ch S B P t.points t'.points t.statuses t'.statuses t.blockers t'.blockers t.pairs t'.pairs
 
 -- the same from no old point, over those of `before` points
-abbrev pub Afresh : Float → Float → ℕ → List ℕ → List ℕ → List ℕ → List ℕ → List ℕ → ℕ → ℕ → Tables → Tables → Type 0
-Afresh size radius reach C confirmed full present moods n before t t' =
+abbrev pub Afresh : Float → Float → ℕ → List ℕ → List ℕ → List ℕ → List ℕ → List ℕ → ℕ → Tables → Tables → Type 0
+Afresh size radius reach C confirmed full present moods before t t' =
     (ch : Batch) (S : Stood) (P Q : PairsBy) → reach ≡ cell.reach (shift_of size radius)
-    → Drawing C ch S [] confirmed full present moods t.points t.statuses t.blockers n 0 → Below 0 P → InRows before Q t.pairs
+    → Drawing C ch S [] confirmed full present moods t.points t.statuses t.blockers 0 → Below 0 P → InRows before Q t.pairs
     → Redrawn (tests size radius) C ch S [] P t.points t'.points t.statuses t'.statuses t.blockers t'.blockers t.pairs t'.pairs

@@ -3,9 +3,8 @@
 #![tactic(auto)]
 
 pub mod change;
-mod judge;
 mod layer;
+pub mod lent;
 pub mod open;
 mod plan;
 pub mod radius;
-mod refusal;

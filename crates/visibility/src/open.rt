@@ -1,63 +1,54 @@
 // Opening a map.
-ghost use Rattle.std.specs.Prelude.{◌≡◌, [], ◌∷◌};
-ghost use Rattle.held.specs.Holds.{tables_of};
+ghost use Rattle.std.specs.Prelude.{◌≡◌, ◌≤◌, [], ◌∷◌, ◌++◌, drop, length, replicate};
+ghost use Rattle.held.specs.Lent.{Same, lists_of};
+ghost use Rattle.held.specs.Told.{told};
+ghost use Rattle.limits.specs.Refusals.{code};
 ghost use Rattle.model.specs.Refusal.{bad_radius, bad_size, verdict};
 ghost use Rattle.visibility.specs.Open.{Opening};
 
-use crate::judge::short_tables;
-use crate::refusal::refused;
-use held::map::{Map, Outcome};
-use limits::due::{due, first_due};
+use held::map::Map;
+use held::tables::Tables;
+use limits::due::Due;
 use limits::judge::bad_size;
 use limits::radius::bad_radius;
+use limits::refusal::Refusal;
 use sizes::{CELLS, PAIRS, POINTS};
-use table::bytes::clear_bytes;
-use table::copy::clear;
+use table::copy::fill;
 
-fn judge(short: bool, size: f64, radius: f64) -> u8
-    ensures { result ≡ verdict ((9, short) ∷ (1, bad_size size) ∷ (2, bad_radius size radius) ∷ []) }
+// The refusals, in their order: 9; 1; 2.
+fn judge(short: bool, size: f64, radius: f64) -> Result<(), Refusal>
+    ensures { code result ≡ verdict ((9, short) ∷ (1, bad_size size) ∷ (2, bad_radius size radius) ∷ []) }
 {
-    let known = due(due(0, 2, bad_radius(size, radius)), 1, bad_size(size));
-    first_due(due(known, 9, short))
+    Due::none()
+        .and(Refusal::Radius, bad_radius(size, radius))
+        .and(Refusal::CellSize, bad_size(size))
+        .and(Refusal::ShortTable, short)
+        .first()
+}
+
+// The first n places become zero, the others stay.
+fn clear<T: Copy>(t: &mut [T], n: usize, zero: T)
+    requires { n ≤ length t.old }
+    ensures { t.new ≡ replicate n zero ++ drop n t.old }
+{
+    fill(&mut t[..n], zero);
 }
 
 // Clears the tables up to their fixed need.
-pub fn open(
-    size: f64,
-    radius: f64,
-    cells: &mut [u64],
-    points: &mut [u64],
-    statuses: &mut [u8],
-    blockers: &mut [u64],
-    pairs: &mut [u64],
-) -> Outcome
-    ensures { Opening size radius
-        (tables_of cells.old points.old statuses.old blockers.old pairs.old)
-        (tables_of cells.new points.new statuses.new blockers.new pairs.new) result }
+pub fn open(size: f64, radius: f64, tables: &mut Tables) -> Result<Map, Refusal>
+    ensures said { Opening size radius (lists_of tables.old) (lists_of tables.new) (told result) }
+    ensures same { Same tables.old tables.new }
 {
-    let short = short_tables(
-        cells.len(),
-        points.len(),
-        statuses.len(),
-        blockers.len(),
-        pairs.len(),
-    );
-    let number = judge(short, size, radius);
-    if number != 0 {
-        return refused(number);
-    }
-    clear(&mut cells[..CELLS]);
-    clear(&mut points[..POINTS]);
-    clear_bytes(&mut statuses[..POINTS]);
-    clear(&mut blockers[..POINTS]);
-    clear(&mut pairs[..PAIRS]);
-    Outcome {
-        refusal: 0,
-        map: Map {
-            size,
-            radius,
-            cells: 0,
-            points: 0,
-        },
-    }
+    judge(tables.is_short(), size, radius)?;
+    clear(tables.cells, CELLS, 0);
+    clear(tables.points, POINTS, 0);
+    clear(tables.statuses, POINTS, 0);
+    clear(tables.blockers, POINTS, 0);
+    clear(tables.pairs, PAIRS, 0);
+    Ok(Map {
+        size,
+        radius,
+        cells: 0,
+        points: 0,
+    })
 }

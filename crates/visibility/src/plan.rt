@@ -1,26 +1,26 @@
 // What a batch on a map changes, worked out before any table is written.
-ghost use Rattle.std.specs.Prelude.{◌≡◌, List, ℕ, ◌*◌, ◌≤◌, length, replicate, take};
-ghost use Rattle.held.specs.Holds.{tables_of};
+ghost use Rattle.std.specs.Prelude.{◌≡◌, IfSome, ◌*◌, ◌≤◌, length};
 ghost use Rattle.limits.specs.Batches.{entries};
+ghost use Rattle.marks.specs.Marked.{Marks};
 ghost use Rattle.model.specs.Limits.{max_batch, max_points};
-ghost use Rattle.visibility.specs.Update.{Lists, Planned};
+ghost use Rattle.visibility.specs.Update.{Lists};
 
 use batches::batch::confirm;
 use corner::changes::corner_changes;
-use held::map::Map;
-use limits::radius::{reach_of, shift_of};
+use marks::lists::Statuses;
 use marks::points::mark_points;
-use sizes::{BATCH, POINTS};
+use sizes::POINTS;
 
 // How many changes were confirmed, and how many corners changed.
 #[derive(Clone, Copy)]
-struct Counts {
-    confirmed: usize,
-    corners: usize,
+pub(crate) struct Counts {
+    pub(crate) confirmed: usize,
+    pub(crate) corners: usize,
 }
 
-// Lists the confirmed changes and the corner changes of a batch.
-fn list_changes(
+// Lists the confirmed changes and the corner changes of a batch. The four slices are no struct: of one that is shortened in its struct,
+// no proof knows what it holds afterwards.
+pub(crate) fn list_changes(
     cells: &[u64],
     batch: &[i64],
     confirmed: &mut [u64],
@@ -43,65 +43,19 @@ fn list_changes(
     }
 }
 
-// The outcome of a batch: how many changes were confirmed, how many corners changed, how many points there are then, and the reach.
-#[derive(Clone, Copy)]
-pub(crate) struct Plan {
-    pub(crate) confirmed: usize,
-    pub(crate) corners: usize,
-    pub(crate) points: usize,
-    pub(crate) reach: u64,
-}
-
-// Works a batch out and leaves every table as it was: the changes, the corners, and the points that these leave with their moods.
-pub(crate) fn work_out(
-    map: Map,
-    cells: &[u64],
-    points: &[u64],
-    statuses: &[u8],
-    batch: &[i64],
-    confirmed: &mut [u64; BATCH],
-    full: &mut [u8; BATCH],
-    corners: &mut [u64],
-    altered: &mut [u8],
+// The points that there are after corners changed, each with its mood: how many, or none where they are too many. Tables that hold no
+// map might give any number, so it is looked at again.
+pub(crate) fn mark(
+    shift: u64,
+    points: Statuses,
+    corners: Statuses,
     present: &mut [u64; POINTS],
     moods: &mut [u64; POINTS],
-) -> Plan
-    requires { (map.cells ≤ length cells.now) × (map.points ≤ length points.now) × (map.points ≤ length statuses.now)
-        × (length (entries batch.now) ≤ max_batch) × (9 * length (entries batch.now) ≤ length corners.old) × (length altered.old ≡ length corners.old)
-        × (present.old ≡ replicate max_points 0) × (moods.old ≡ replicate max_points 0) }
-    ensures { (result.confirmed ≤ length confirmed.new) × (result.confirmed ≤ length full.new)
-        × (result.corners ≤ length corners.new) × (result.corners ≤ length altered.new)
-        × (length present.new ≡ max_points) × (length moods.new ≡ max_points) × ((blockers pairs : List ℕ)
-        → Planned map (tables_of cells.now points.now statuses.now blockers pairs) (entries batch.now)
-        (take result.confirmed confirmed.new) (take result.confirmed full.new)
-        (take result.corners corners.new) (take result.corners altered.new)
-        present.new moods.new result.points result.reach) }
+) -> Option<usize>
+    ensures marked { Marks shift points.entry.cells.now points.entry.statuses.now corners.entry.cells.now corners.entry.statuses.now
+        present.old present.new moods.old moods.new result }
+    ensures few { IfSome result (λ n. n ≤ max_points) }
 {
-    let n = map.cells;
-    let counts = list_changes(
-        &cells[..n],
-        batch,
-        &mut confirmed[..],
-        &mut full[..],
-        corners,
-        altered,
-    );
-    let found = counts.corners;
-    let shift = shift_of(map.size, map.radius);
-    let p = map.points;
-    let m = mark_points(
-        shift,
-        &points[..p],
-        &statuses[..p],
-        &corners[..found],
-        &altered[..found],
-        &mut present[..],
-        &mut moods[..],
-    );
-    Plan {
-        confirmed: counts.confirmed,
-        corners: found,
-        points: m,
-        reach: reach_of(shift),
-    }
+    let n = mark_points(shift, points, corners, &mut present[..], &mut moods[..])?;
+    if POINTS < n { None } else { Some(n) }
 }

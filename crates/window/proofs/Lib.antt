@@ -1,3 +1,2 @@
 -- The laws of crate `window`.
-pub mod Down
 pub mod Whole

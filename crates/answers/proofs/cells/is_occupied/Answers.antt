@@ -1,32 +1,27 @@
 use Prim.Native.Nat.{ℕ}
-use mathlib.Core.Path.{◌≡◌, sym, ◌∙◌}
-use mathlib.Core.Bool.{false}
-use mathlib.Core.List.{[], ◌∷◌}
-use lib.ListN.{length}
-use Rattle.answers.proofs.PassedLaws.{lacks_short, list_as, none_short, said}
-use Rattle.answers.specs.Asking.{refuse_map}
-use Rattle.model.specs.Limits.{max_cells}
-use Rattle.model.specs.Refusal.{short}
-use Rattle.answers.specs.CellLists.{Lent}
+use mathlib.Core.Path.{◌≡◌}
+use mathlib.Core.List.{[]}
+use Rattle.answers.proofs.PassedLaws.{list_as, said}
+use Rattle.answers.specs.CellLists.{Lent, due}
 use Rattle.answers.proofs.CellLaws.{occupied_told, used}
 use Rattle.answers.proofs.FoundLaws.{telling_done, telling_refused}
 use Rattle.answers.proofs.cells.is_occupied.Goals as goal
-use Rattle.answers.proofs.cells.is_occupied.Goals.{After-lacks}
+use Rattle.answers.proofs.cells.is_occupied.Goals.{After-refuse}
 
 -- n is what the tests say
-number : (e : After-lacks) {n : ℕ} → n ≡ said e.lacks.result e.args.map 0 → n ≡ refuse_map (short ((length e.args.cells.now, max_cells) ∷ [])) e.args.map []
-number e f = list_as _ e.lacks.result _ e.args.map f (lacks_short (length e.args.cells.now) max_cells [] false e.lacks.result e.lacks.ensures none_short)
+number : (e : After-refuse) {n : ℕ} → n ≡ said e.is_short.result e.args.map e.none.result.word → n ≡ due e.args.map e.args.cells.now [] []
+number e f = list_as _ _ _ e.args.map _ f e.is_short.ensures e.none.ensures
 
-pub returns-then-number-ne0 : goal.returns-then-number-ne0
-returns-then-number-ne0 c =
+pub returns-in_err-refuse : goal.returns-in_err-refuse
+returns-in_err-refuse c =
     let a = c.args in
-    telling_refused _ c.refuse-number.result (Lent a.map a.cells.now) (number (goal.at.returns-then-number-ne0 c).After-lacks c.refuse-number.ensures) a.cell.x a.cell.y c.if-number-ne0.true
+    telling_refused _ (Lent a.map a.cells.now) a.cell.x a.cell.y c.from_residual.result _ c.from_residual.ensures.1 (number (goal.at.returns-in_err-refuse c).After-refuse c.in_err-refuse.ensures)
 
 pub slice_bounds-is_occupied-end : goal.slice_bounds-is_occupied-end
-slice_bounds-is_occupied-end c = used c.args.map c.args.cells.now [] [] (sym (number (goal.at.slice_bounds-is_occupied-end c).After-lacks c.refuse-number.ensures) ∙ c.if-number-ne0.false)
+slice_bounds-is_occupied-end c = used c.args.map c.args.cells.now [] [] (number (goal.at.slice_bounds-is_occupied-end c).After-refuse c.in_ok-refuse.ensures)
 
 pub returns : goal.returns
 returns c =
     let a = c.args in
-    telling_done _ c.refuse-number.result (Lent a.map a.cells.now) (number (goal.at.returns c).After-lacks c.refuse-number.ensures) a.cell.x a.cell.y c.is_occupied.result c.if-number-ne0.false
-    (occupied_told a.map a.cells.now a.cell.x a.cell.y c.is_occupied.result c.is_occupied.ensures)
+    let r = c.is_occupied in
+    telling_done _ (Lent a.map a.cells.now) a.cell.x a.cell.y r.result (number (goal.at.returns c).After-refuse c.in_ok-refuse.ensures) (occupied_told a.map a.cells.now a.cell.x a.cell.y r.result r.ensures)

@@ -1,44 +1,35 @@
 use Prim.Native.Nat.{ℕ}
-use mathlib.Core.Path.{◌≡◌, refl, sym, ◌∙◌}
-use mathlib.Core.Bool.{false}
+use mathlib.Core.Path.{◌≡◌, refl}
 use mathlib.Core.List.{List, [], ◌∷◌}
 use lib.ListN.{length}
 use Rattle.answers.proofs.ListingLaws.{listing_done, listing_refused}
-use Rattle.answers.proofs.PassedLaws.{lacks_short, list_as, long_enough, none_short, said}
-use Rattle.answers.specs.Asking.{refuse_map}
-use Rattle.model.specs.Limits.{max_cells, need_cells}
-use Rattle.model.specs.Refusal.{short}
-use Rattle.answers.specs.CellLists.{Lent}
-use Rattle.answers.proofs.CellLaws.{cells_written, rest_long, used}
+use Rattle.answers.proofs.PassedLaws.{accepted, list_as, said}
+use Rattle.answers.specs.CellLists.{Lent, due}
+use Rattle.model.specs.Limits.{need_cells}
+use Rattle.answers.proofs.CellLaws.{cells_written, used}
 use Rattle.answers.proofs.cells.occupied_cells.Goals as goal
-use Rattle.answers.proofs.cells.occupied_cells.Goals.{After-lacks-short}
+use Rattle.answers.proofs.cells.occupied_cells.Goals.{After-refuse}
 
 -- what is lent beside the cells, with its needs
-abbrev rest : After-lacks-short → List (ℕ × ℕ)
+abbrev rest : After-refuse → List (ℕ × ℕ)
 rest e = (length e.args.out.now, need_cells) ∷ []
 
 -- n is what the tests say
-number : (e : After-lacks-short) {n : ℕ} → n ≡ said e.lacks-short.result e.args.map 0 → n ≡ refuse_map (short ((length e.args.cells.now, max_cells) ∷ rest e)) e.args.map []
-number e f =
-    let e1 = lacks_short (length e.args.out.now) need_cells [] false e.lacks.result e.lacks.ensures none_short in
-    list_as _ e.lacks-short.result _ e.args.map f (lacks_short (length e.args.cells.now) max_cells (rest e) e.lacks.result e.lacks-short.result e.lacks-short.ensures e1)
+number : (e : After-refuse) {n : ℕ} → n ≡ said e.is_short-short.result e.args.map e.none.result.word → n ≡ due e.args.map e.args.cells.now (rest e) []
+number e f = list_as _ _ _ e.args.map _ f e.is_short-short.ensures e.none.ensures
 
-pub returns-then-number-ne0 : goal.returns-then-number-ne0
-returns-then-number-ne0 c =
-    let a = c.args in
-    let due = number (goal.at.returns-then-number-ne0 c).After-lacks-short c.refuse-number.ensures in
-    listing_refused _ c.refuse-number.result (Lent a.map a.cells.now) _ c.refused.result due c.if-number-ne0.true c.refused.ensures (refl, tt)
+pub returns-in_err-refuse : goal.returns-in_err-refuse
+returns-in_err-refuse c =
+    listing_refused _ (Lent c.args.map c.args.cells.now) _ c.from_residual.result _ c.from_residual.ensures.1 (number (goal.at.returns-in_err-refuse c).After-refuse c.in_err-refuse.ensures) (refl, tt)
 
 pub slice_bounds-copy-end : goal.slice_bounds-copy-end
 slice_bounds-copy-end c =
-    let e = (goal.at.slice_bounds-copy-end c).After-lacks-short in
-    used c.args.map c.args.cells.now (rest e) [] (sym (number e c.refuse-number.ensures) ∙ c.if-number-ne0.false)
+    let e = (goal.at.slice_bounds-copy-end c).After-refuse in
+    used c.args.map c.args.cells.now (rest e) [] (number e c.in_ok-refuse.ensures)
 
 pub returns : goal.returns
 returns c =
     let a = c.args in
-    let e = (goal.at.returns c).After-lacks-short in
-    let due = number e c.refuse-number.ensures in
-    let room = (long_enough (length a.out.now) need_cells [] (rest_long a.map a.cells.now (rest e) [] (sym due ∙ c.if-number-ne0.false))).0 in
-    listing_done _ c.refuse-number.result (Lent a.map a.cells.now) _ _ due c.if-number-ne0.false refl
-    (cells_written a.map a.cells.now a.out.now c.copy.new.to room c.copy.ensures)
+    let e = (goal.at.returns c).After-refuse in
+    let none = number e c.in_ok-refuse.ensures in
+    listing_done _ (Lent a.map a.cells.now) _ a.map.cells none (cells_written a.map a.cells.now a.out.now c.copy.new.to (accepted _ a.map [] 0 none refl).0.1.0 c.copy.ensures)

@@ -1,11 +1,6 @@
-use Prim.Native.Nat.{◌-◌}
-use lib.ListN.{length}
 use Rattle.answers.proofs.PairLaws.{OpenTo}
 use Rattle.answers.proofs.pairs.list_open.Given as goal
 
 -- `pairs::list_open`: row by row, but for the rows of blocked points. Assumes nothing.
 abbrev pub invariant-loop-i : goal.invariant-loop-i
 invariant-loop-i l = OpenTo l.points l.blockers l.pairs l.n l.i l.initial.lesser l.lesser l.initial.greater l.greater
-
-abbrev pub decreases-loop-i : goal.decreases-loop-i
-decreases-loop-i l = length l.points - l.i

@@ -1,17 +1,11 @@
-use native.Mathlib.Omega.{arith}
 use mathlib.Core.Path.{◌∙◌}
-use Rattle.batches.proofs.WriteLaws.{commit_is, listed_lengths}
+use Rattle.batches.proofs.WriteLaws.{commit_is}
 use Rattle.batches.proofs.batch.commit.Goals as goal
 
 -- `batch::commit`: what is to be free is taken out, and then what is to be occupied put in. Assumes nothing.
-pub returns-then-full-confirmed : goal.returns-then-full-confirmed
-returns-then-full-confirmed c =
-    let a = c.args in
-    λ b p q o T h. absurd (omega (arith, c.if-full-confirmed.true, listed_lengths a.confirmed.now a.full.now b p q))
-
 pub returns : goal.returns
 returns c =
-    let i = c.put_in in
-    let o = c.take_out-used in
+    let o = c.write-used in
+    let i = c.write in
     let a = c.args in
-    commit_is a.confirmed.now a.full.now a.cells.now a.n o.new.cells o.result i.new.cells i.result o.ensures i.ensures o.auto.cells (i.auto.cells ∙ o.auto.cells)
+    commit_is a.changes.cells.now a.changes.full.now a.cells.now a.n o.new.cells o.result i.new.cells i.result o.ensures i.ensures o.auto.cells (i.auto.cells ∙ o.auto.cells)

@@ -1,13 +1,14 @@
-use Prim.Native.Nat.{◌/◌, zero-le}
+use Prim.Native.Nat.{◌/◌, ◌<◌, zero-le}
 use native.Mathlib.Omega.{arith}
-use mathlib.Core.Path.{◌≡◌, refl}
+use mathlib.Core.Path.{◌≡◌, ◌∙◌, refl}
 use lib.ListN.{length}
+use Rattle.std.specs.Slice.Iter.{chunks_exact_rest}
 use Rattle.model.proofs.RunLaws.{batch_ascends}
 use Rattle.limits.specs.Batches.{entries}
 use Rattle.limits.proofs.EntryLaws.{entries_length}
-use Rattle.batches.proofs.ListingLaws.{Looked, listing_start, listing_more, listing_same, listing_end}
+use Rattle.batches.proofs.ListingLaws.{Looked, bit_is, listing_start, listing_more, listing_same, listing_end}
 use Rattle.batches.proofs.batch.confirm.Goals as goal
-use Rattle.batches.proofs.batch.confirm.Goals.{else-alters, then-out-batch-via-else-out-batch+then-full-batch, then-alters, then-out-batch-via-then-out-batch}
+use Rattle.batches.proofs.batch.confirm.Goals.{then-out-batch-via-else-out-batch+then-full-batch, then-out-batch-via-then-out-batch}
 
 pub returns-then-out-batch : goal.returns-then-out-batch
 returns-then-out-batch c =
@@ -19,39 +20,37 @@ returns-then-out-batch c =
       zero-le,
     )
 
-pub loop-i-init : goal.loop-i-init
-loop-i-init c = let a = c.args in listing_start a.cells.now a.batch.now a.out.now a.full.now
-
-pub bounds-full-n : goal.bounds-full-n
-bounds-full-n c =
+pub loop-numbers-init : goal.loop-numbers-init
+loop-numbers-init c =
     let a = c.args in
-    let e : length c.loop-i.full ≡ length a.full.now = c.loop-i.invariant.numbers in
-    omega (arith, c.if-full-batch.false)
+    let e = c.chunks_exact-numbers-items.ensures in
+    rw c.into_iter-numbers-iterator.ensures.into_iter_gives (e.size, rw e.rest (listing_start a.cells.now a.batch.now a.out.now a.full.now))
 
--- what was looked up of the entry at i is listed, or passed over
-pub loop-i-preserved : goal.loop-i-preserved
-loop-i-preserved c =
-    let a = c.args in
-    let e : Looked a.cells.now a.batch.now c.loop-i.i c.key_at-k.result c.full_at-on.result c.alters.result = record {
-      there = c.loop-i-test.true;
-      is_key = c.key_at-k.ensures;
-      full = c.full_at-on.ensures;
-      alters = c.alters.ensures;
-    } in
-    elim c.if-alters.branch [ then-alters w ↦ rw (w.out-is, w.full-is, w.n-is, w.flag.ensures) (listing_more e c.loop-i.invariant c.if-out-batch.false c.if-full-batch.false w.if-alters.true) | else-alters w ↦ rw (w.out-is, w.full-is, w.n-is) (listing_same e c.loop-i.invariant w.if-alters.false) ]
+-- what was looked up of the entry is listed, or passed over
+pub loop-numbers-preserved : goal.loop-numbers-preserved
+loop-numbers-preserved c =
+    let v = c.loop-numbers.invariant in
+    let s = c.in-Some.ensures.steps in
+    let e : Looked c.args.cells.now (chunks_exact_rest c.loop-numbers.numbers-iterator) c.in-Some.numbers.now (chunks_exact_rest c.next.new.self) c.entry-k.result.0 c.entry-k.result.1 c.alters.result =
+    record { there = s.1.0; three = s.1.1 ∙ v.0; is_key = c.entry-k.ensures.0; full = c.entry-k.ensures.1; alters = c.alters.ensures } in
+    (s.0 ∙ v.0, listing_same e v.1 c.if-alters.false)
 
-pub shape_of-out : goal.shape_of-out
-shape_of-out c = c.loop-i.invariant.cells
-
-pub shape_of-full : goal.shape_of-full
-shape_of-full c = c.loop-i.invariant.numbers
+pub loop-numbers-preserved-then-alters : goal.loop-numbers-preserved-then-alters
+loop-numbers-preserved-then-alters c =
+    let v = c.loop-numbers.invariant in
+    let s = c.in-Some.ensures.steps in
+    let e : Looked c.args.cells.now (chunks_exact_rest c.loop-numbers.numbers-iterator) c.in-Some.numbers.now (chunks_exact_rest c.next.new.self) c.entry-k.result.0 c.entry-k.result.1 c.alters.result =
+    record { there = s.1.0; three = s.1.1 ∙ v.0; is_key = c.entry-k.ensures.0; full = c.entry-k.ensures.1; alters = c.alters.ensures } in
+    (s.0 ∙ v.0, rw (c.from.ensures, bit_is c.entry-k.result.1) (listing_more e v.1 c.if-out-batch.false c.if-full-batch.false c.if-alters.true))
 
 pub returns : goal.returns
 returns c =
     let b = c.args.batch.now in
-    let n : length (entries b) ≡ length b / 3 = entries_length b in (
-      λ asc u o ho hf. listing_end c.loop-i.invariant c.loop-i-test.false asc (batch_ascends (entries b) u o),
+    let v = c.loop-numbers.invariant in
+    let n : length (entries b) ≡ length b / 3 = entries_length b in
+    let h : length (chunks_exact_rest c.loop-numbers.numbers-iterator) < 3 = rw (← v.0) c.in-None.ensures.steps.1.0 in (
+      λ asc u o ho hf. listing_end v.1 h asc (batch_ascends (entries b) u o),
       λ h. absurd (omega (arith, c.if-out-batch.false)),
       λ h. absurd (omega (arith, c.if-full-batch.false)),
-      omega (arith, c.loop-i.invariant.few, c.loop-i.invariant.inside),
+      omega (arith, v.1.few),
     )

@@ -3,24 +3,15 @@ use native.Mathlib.Omega.{arith}
 use mathlib.Core.Path.{refl}
 use Rattle.corner.proofs.ChangeLaws.{sofar_none, sofar_next, sofar_all}
 use Rattle.corner.proofs.changes.corner_changes.Goals as goal
+use Rattle.corner.proofs.changes.corner_changes.Goals.{then-out-room-via-then-out-room, then-out-room-via-else-out-room+then-statuses-room}
 
 pub returns-then-out-room : goal.returns-then-out-room
-returns-then-out-room c =
-    let few = c.if-out-room.true in (
-      λ ch C e t a b i ra rb. absurd (omega arith),
-      λ h. record { count = refl; cells = refl; numbers = refl },
-      λ h. record { count = refl; cells = refl; numbers = refl },
-      zero-le,
-    )
-
-pub returns-then-statuses-room : goal.returns-then-statuses-room
-returns-then-statuses-room c =
-    let few = c.if-statuses-room.true in (
-      λ ch C e t a b i ra rb. absurd (omega arith),
-      λ h. record { count = refl; cells = refl; numbers = refl },
-      λ h. record { count = refl; cells = refl; numbers = refl },
-      zero-le,
-    )
+returns-then-out-room c = (
+  λ ch C e t a b i ra rb. absurd (elim c.then-out-room.branch [ then-out-room-via-then-out-room w ↦ omega (arith, w.if-out-room.true) | then-out-room-via-else-out-room+then-statuses-room w ↦ omega (arith, w.if-statuses-room.true) ]),
+  λ h. record { count = refl; cells = refl; numbers = refl },
+  λ h. record { count = refl; cells = refl; numbers = refl },
+  zero-le,
+)
 
 pub loop-i-init : goal.loop-i-init
 loop-i-init c =

@@ -6,19 +6,18 @@ use lib.ListN.{get_or}
 use Rattle.model.specs.Cell.{W}
 use Rattle.corner.proofs.ChangeLaws.{given_inner, words_fresh}
 use Rattle.corner.proofs.changes.put_around.Goals as goal
+use Rattle.corner.proofs.changes.put_around.Goals.{then-e-lt-MIDDLE-via-then-e-lt-MIDDLE, then-e-lt-MIDDLE-via-else-e-lt-MIDDLE+then-e-ge-OUTERMOST}
 
 -- `changes::put_around`: the words of the window say what the cell adds. Assumes nothing.
 pub returns-then-e-lt-MIDDLE : goal.returns-then-e-lt-MIDDLE
 returns-then-e-lt-MIDDLE c =
-    let a = c.args in
-    let inside = c.requires.0 in
-    (omega arith, λ C g. let i = given_inner a.cells.now a.confirmed.now C a.i g inside in absurd (omega (arith, i.0, c.if-e-lt-MIDDLE.true)))
-
-pub returns-then-e-ge-OUTERMOST : goal.returns-then-e-ge-OUTERMOST
-returns-then-e-ge-OUTERMOST c =
-    let a = c.args in
-    let inside = c.requires.0 in
-    (omega arith, λ C g. let i = given_inner a.cells.now a.confirmed.now C a.i g inside in absurd (omega (arith, i.1, c.if-e-ge-OUTERMOST.true)))
+    let a = c.args in (
+      omega arith,
+      λ C g. let i = given_inner a.cells.now a.confirmed.now C a.i g c.requires.0 in absurd (elim c.then-e-lt-MIDDLE.branch [
+        | then-e-lt-MIDDLE-via-then-e-lt-MIDDLE w ↦ omega (arith, i.0, w.if-e-lt-MIDDLE.true)
+        | then-e-lt-MIDDLE-via-else-e-lt-MIDDLE+then-e-ge-OUTERMOST w ↦ omega (arith, i.1, w.if-e-ge-OUTERMOST.true)
+      ]),
+    )
 
 pub corners_of-now-requires : goal.corners_of-now-requires
 corners_of-now-requires c =

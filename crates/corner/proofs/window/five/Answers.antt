@@ -1,5 +1,6 @@
 use native.Mathlib.Omega.{arith}
-use mathlib.Core.Path.{sym, ◌∙◌}
+use mathlib.Core.Path.{◌≡◌, sym, ◌∙◌}
+use Rattle.table.proofs.SearchLaws.{power_is}
 use Rattle.corner.proofs.RowLaws.{row_none, row_hit, row_miss}
 use Rattle.corner.proofs.window.five.Goals as goal
 use Rattle.corner.proofs.window.five.Goals.{else-stands_at, then-stands_at}
@@ -15,9 +16,10 @@ loop-j-preserved c =
     let l = c.loop-j in
     let s = c.stands_at in
     let more = c.loop-j-test.true in
-    elim c.if-stands_at.branch [ then-stands_at w ↦ rw (w.at-is, w.bits-is) (row_hit a.t.now a.base l.at l.bits l.bit l.j more l.invariant (sym s.ensures ∙ w.if-stands_at.true)) | else-stands_at w ↦ rw (w.at-is, w.bits-is) (row_miss a.t.now a.base l.at l.bits l.bit l.j more l.invariant (sym s.ensures ∙ w.if-stands_at.false)) ]
+    elim c.if-stands_at.branch [ then-stands_at w ↦ rw (w.at-is, w.bits-is) (row_hit a.t.now a.base l.at l.bits l.j more l.invariant _ (power_is l.j (omega arith)) (sym s.ensures ∙ w.if-stands_at.true)) | else-stands_at w ↦ rw (w.at-is, w.bits-is) (row_miss a.t.now a.base l.at l.bits l.j more l.invariant (sym s.ensures ∙ w.if-stands_at.false)) ]
 
 pub returns : goal.returns
 returns c =
     let l = c.loop-j in
-    (omega (arith, l.invariant.small, l.invariant.short), λ a j h. l.invariant.seen a j (omega arith))
+    let e : l.j ≡ 5 = omega (arith, l.invariant.few) in
+    (rw e at l.invariant.small, λ a j h. l.invariant.seen a j (omega arith))

@@ -1,35 +1,25 @@
-use native.Mathlib.Omega.{arith}
-use mathlib.Core.Path.{refl, sym}
-use lib.Seq.{length-take-le}
+use mathlib.Core.Path.{◌≡◌, ap, ◌∙◌}
+use lib.ListN.{take, drop, take-append-drop}
+use mathlib.Core.List.{◌++◌}
 use Rattle.limits.specs.Batches.{entries}
 use Rattle.model.specs.Limits.{max_cells}
+use Rattle.batches.proofs.CommitLaws.{Commits}
 use Rattle.grid.proofs.ApplyLaws.{applied}
 use Rattle.grid.proofs.change.apply.Goals as goal
 
 -- `change::apply`: the confirmed changes, the corner changes, and then the cells. Assumes nothing.
-pub slice_bounds-confirm-end-2 : goal.slice_bounds-confirm-end-2
-slice_bounds-confirm-end-2 c = let a = c.args in sym (length-take-le a.floor.cells a.cells.now (omega arith))
-
-pub slice_bounds-corner_changes-end-2 : goal.slice_bounds-corner_changes-end-2
-slice_bounds-corner_changes-end-2 c = let a = c.args in sym (length-take-le a.floor.cells a.cells.now (omega arith))
-
-pub slice_bounds-corner_changes-end-4 : goal.slice_bounds-corner_changes-end-4
-slice_bounds-corner_changes-end-4 c = let f = c.confirm-changes in sym (length-take-le f.result f.new.out (omega arith))
-
-pub slice_bounds-commit-end-2 : goal.slice_bounds-commit-end-2
-slice_bounds-commit-end-2 c = let a = c.args in sym (length-take-le max_cells a.cells.now (omega arith))
-
-pub slice_bounds-commit-end-4 : goal.slice_bounds-commit-end-4
-slice_bounds-commit-end-4 c = let f = c.confirm-changes in sym (length-take-le f.result f.new.out (omega arith))
-
-pub slice_bounds-commit-end-6 : goal.slice_bounds-commit-end-6
-slice_bounds-commit-end-6 c = let f = c.confirm-changes in sym (length-take-le f.result f.new.full (omega arith))
-
-pub returns : goal.returns
-returns c =
-    let f = c.confirm-changes in
-    let q = c.corner_changes-changed in
-    let m = c.commit-after in
+pub returns-clause-done : goal.returns-clause-done
+returns-clause-done c =
     let a = c.args in
-    let room = c.requires in
-    (refl, λ C y. applied a.floor (entries a.batch.now) a.cells.now a.confirmed.now f.new.out a.full.now f.new.full a.corners.now q.new.out a.altered.now q.new.statuses m.new.cells f.result q.result m.result C y room.2 room.3 f.ensures.0 q.ensures.0 m.ensures)
+    let o = c.args.outputs.now in
+    let f = c.confirm-confirmed in
+    let q = c.corner_changes-corners in
+    let m = c.commit-after in
+    let l = c.first_changes.ensures in
+    let whole : take f.result f.new.out ++ drop f.result f.new.out ≡ f.new.out = take-append-drop f.result f.new.out in
+    let commits : Commits (take max_cells a.cells.now) a.floor.cells (take f.result f.new.out) (take f.result f.new.full) m.new.cells m.result =
+    λ b r s. m.ensures b (l.cells ∙ ap (take f.result) whole ∙ r) (l.full ∙ s) in
+    λ C y.
+    rw whole
+    (applied a.floor (entries a.batch.now) a.cells.now o.confirmed.now f.new.out o.full.now f.new.full o.corners.now q.new.out o.altered.now q.new.statuses m.new.cells f.result q.result m.result C y
+    c.requires.2 c.requires.3 f.ensures.0 q.ensures.0 commits)

@@ -10,7 +10,7 @@ pub returns : goal.returns
 returns c =
     let a = c.args in
     let b = a.batch.now in
-    change_judged a.short a.size b _ c.first_due.ensures
-    (due_added 9 0 _ _ c.due-3.ensures refl refl
-    (due_added 1 0 _ _ c.due-2.ensures refl c.bad_size.ensures
-    (c.batch_due-read.ensures ∙ ap (λ w. word_on w (looked b)) (due_added 6 0 _ [] c.due.ensures refl refl (none_added 0)) ∙ both_added 0 (looked b) _)))
+    change_judged a.short a.floor.size b _ c.first.ensures
+    (due_added 9 0 _ _ c.and-2.ensures refl refl
+    (due_added 1 0 _ _ c.and.ensures refl c.bad_size.ensures
+    (c.batch_due.ensures ∙ ap (λ w. word_on w (looked b)) (due_added 6 0 _ [] c.and-crowded.ensures refl refl (c.none.ensures ∙ none_added 0)) ∙ both_added 0 (looked b) _)))

@@ -1,4 +1,4 @@
-use Rattle.std.proofs.Common.{◌*◌, ◌%◌, ◌^◌, Bool, not, T, sym, refl, ◌∙◌, subst, le-ltb}
+use Rattle.std.proofs.Common.{◌*◌, ◌%◌, ◌^◌, Bool, not, T, sym, ◌∙◌, subst, le-ltb}
 use lib.Ieee.{binary64}
 use lib.Ieee.Bits.{nan_bits_above}
 use Rattle.ieee.proofs.NanPatterns.{nan_pattern, quotient}
@@ -12,6 +12,3 @@ pub float_from_bits-result : goal.float_from_bits-result
 float_from_bits-result c =
     let b = c.args.pattern in
     subst (λ (t : Bool). T (not t)) (sym (nan_bits_above binary64 b ∙ le-ltb (2047 * 2 ^ 52) (b % 2 ^ 63) c.if-pattern-gt9218868437227405312.false)) tt
-
-pub returns : goal.returns
-returns c = refl

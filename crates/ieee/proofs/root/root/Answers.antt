@@ -1,15 +1,10 @@
 use Rattle.std.proofs.Common.{◌∙◌}
 use lib.Ieee.{div, of_bits}
-use Rattle.ieee.specs.Constants.{nought}
-use Rattle.ieee.proofs.Tools.{T_true, lt_some_right, not_nan}
+use Rattle.ieee.proofs.Tools.{T_true}
 use Rattle.ieee.proofs.RootCases.{some_bits, root_finite, root_endless, root_below, root_neither}
 use Rattle.ieee.proofs.root.root.Goals as goal
 
 -- `ieee::root::root` meets its contract. The laws are in `proofs/RootCases.antt`. Assumes nothing.
-pub float_to_bits-b : goal.float_to_bits-b
-unfolding of_bits
-float_to_bits-b c = let x = c.args.x in not_nan x (lt_some_right nought x c.if-x.true)
-
 pub root_positive-requires : goal.root_positive-requires
 unfolding of_bits
 root_positive-requires c =

@@ -4,9 +4,6 @@ use Rattle.ieee.proofs.root.root_checked.Goals as goal
 use Rattle.ieee.proofs.root.root_checked.Goals.{else-c-f-2, then-c-f-2}
 
 -- `ieee::root::root_checked` meets its contract. Assumes nothing.
-pub overflow_add-r-then-c-f-3 : goal.overflow_add-r-then-c-f-3
-overflow_add-r-then-c-f-3 c = elim c.if-c-f-2.branch [ then-c-f-2 w ↦ omega arith | else-c-f-2 w ↦ omega arith ]
-
 pub returns-then-c-f-3 : goal.returns-then-c-f-3
 returns-then-c-f-3 c =
     let x = c.args.c in

@@ -1,6 +1,5 @@
 use Rattle.std.proofs.Common.{◌+◌, ◌-◌, ◌*◌, ◌/◌, arith}
 use Rattle.ieee.proofs.RootBits.{no_nan_bits}
-use Rattle.ieee.proofs.Tools.{lt_some_right, not_nan}
 use Rattle.ieee.proofs.root.root_guess.Goals as goal
 
 -- `ieee::root::root_guess` meets its contract: the candidate is in range, and no step meets a NaN as a bit pattern. Assumes nothing.
@@ -9,6 +8,3 @@ float_from_bits-t c = no_nan_bits ((1022 + c.args.p) * 4503599627370496 + c.args
 
 pub float_from_bits-x : goal.float_from_bits-x
 float_from_bits-x c = no_nan_bits (6909647675743469568 - ((1022 + c.args.p) * 4503599627370496 + c.args.v) / 2) (omega arith)
-
-pub float_to_bits-g : goal.float_to_bits-g
-float_to_bits-g c = not_nan _ (lt_some_right _ _ c.if-g.true)

@@ -4,17 +4,8 @@ use Rattle.ieee.proofs.RootScaled.{zeros_range, moved_scaled, moved_value, norma
 use Rattle.ieee.proofs.root.root_positive.Goals as goal
 
 -- `ieee::root::root_positive` meets its contract. The laws are in `proofs/RootScaled.antt`. Assumes nothing.
-pub overflow_cast-z : goal.overflow_cast-z
-overflow_cast-z c = let z = zeros_range c.args.b c.requires.0 c.if-b-lt4503599627370496.true in omega arith
-
 pub overflow_sub-z : goal.overflow_sub-z
 overflow_sub-z c = let z = zeros_range c.args.b c.requires.0 c.if-b-lt4503599627370496.true in omega arith
-
-pub overflow_shl-b : goal.overflow_shl-b
-overflow_shl-b c = let z = zeros_range c.args.b c.requires.0 c.if-b-lt4503599627370496.true in omega arith
-
-pub overflow_sub-z-then-b-lt4503599627370496 : goal.overflow_sub-z-then-b-lt4503599627370496
-overflow_sub-z-then-b-lt4503599627370496 c = let z = zeros_range c.args.b c.requires.0 c.if-b-lt4503599627370496.true in omega arith
 
 pub root_scaled-requires : goal.root_scaled-requires
 root_scaled-requires c = moved_scaled c.args.b c.requires.0 c.if-b-lt4503599627370496.true

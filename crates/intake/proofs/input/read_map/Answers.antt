@@ -1,25 +1,26 @@
--- `input::read_map`: what is lent is too short, or the fields are read.
-use Rattle.std.proofs.Common.{◌≡◌, false, [], sym, ◌∙◌}
-use Rattle.answers.proofs.PassedLaws.{lacks_short, none_short, tables_short}
-use Rattle.held.specs.Holds.{tables_of}
-use Rattle.model.specs.Limits.{need_window}
-use Rattle.model.specs.Refusal.{short}
-use Rattle.intake.specs.Taken.{lent}
-use Rattle.intake.proofs.GoingLaws.{taken_lacking, taken_read}
-use Rattle.intake.proofs.input.read_map.Given.{Over}
+-- `input::read_map`: what is lent is too short, or the fields are read (GoingLaws.antt).
+use Rattle.std.proofs.Common.{sym, ◌∙◌, inl, inr}
+use Rattle.held.specs.Lent.{lists_of}
+use Rattle.intake.proofs.GoingLaws.{lent_long, lent_short, taken_lacking, taken_read}
 use Rattle.intake.proofs.input.read_map.Goals as goal
-use Rattle.intake.proofs.input.read_map.Goals.{After-lacks}
+use Rattle.intake.proofs.input.read_map.Goals.{then-buffer-lt-WINDOW-via-else-buffer-lt-WINDOW+then-is_short, then-buffer-lt-WINDOW-via-then-buffer-lt-WINDOW}
 
--- what is lent, as it was judged
-judged : (g : Over) (c : After-lacks g) → let a = c.args in c.lacks.result ≡ short (lent a.buffer.now (tables_of a.cells.now a.points.now a.statuses.now a.blockers.now a.pairs.now))
-judged g c = lacks_short _ need_window _ c.lacks_tables-tables.result c.lacks.result c.lacks.ensures
-    (tables_short _ _ _ _ _ [] false c.lacks_tables-tables.result c.lacks_tables-tables.ensures none_short)
-
-pub returns-then-lacks : goal.returns-then-lacks
-returns-then-lacks g c = taken_lacking _ _ (sym (judged g (goal.at.returns-then-lacks g c).After-lacks) ∙ c.if-lacks.true)
+pub returns-then-buffer-lt-WINDOW-clause-said : goal.returns-then-buffer-lt-WINDOW-clause-said
+returns-then-buffer-lt-WINDOW-clause-said g c =
+    let b = c.args.buffer.now in
+    let t = lists_of c.args.tables.now in
+    taken_lacking b t
+    (lent_short b t
+    (elim c.then-buffer-lt-WINDOW.branch [
+      | then-buffer-lt-WINDOW-via-then-buffer-lt-WINDOW w ↦ inl w.if-buffer-lt-WINDOW.true
+      | then-buffer-lt-WINDOW-via-else-buffer-lt-WINDOW+then-is_short w ↦ inr (sym w.is_short.ensures ∙ w.if-is_short.true)
+    ]))
 
 pub read_fields-requires : goal.read_fields-requires
-read_fields-requires g c = sym (judged g (goal.at.read_fields-requires g c).After-lacks) ∙ c.if-lacks.false
+read_fields-requires g c = lent_long c.args.buffer.now (lists_of c.args.tables.now) c.if-buffer-lt-WINDOW.false (sym c.if-is_short.ensures)
 
-pub returns : goal.returns
-returns g c = taken_read _ _ _ _ _ (sym (judged g (goal.at.returns g c).After-lacks) ∙ c.if-lacks.false) c.read_fields.ensures
+pub returns-clause-said : goal.returns-clause-said
+returns-clause-said g c =
+    let b = c.args.buffer.now in
+    let t = lists_of c.args.tables.now in
+    taken_read b t _ _ _ (lent_long b t c.if-buffer-lt-WINDOW.false (sym c.if-is_short.ensures)) c.read_fields.ensures.said

@@ -1,38 +1,22 @@
 -- `listing::list_input`: a refused file's line, or the listing of the map that was read (ShownLaws.antt).
-use Rattle.std.proofs.Common.{◌≡◌, false, [], ◌∷◌, length, refl, sym, ◌∙◌}
-use Rattle.answers.proofs.PassedLaws.{lacks_short, none_short}
-use Rattle.held.specs.Holds.{Tables, tables_of}
-use Rattle.mapfile.proofs.OwnLaws.{Whole, own_enough, whole_enough}
-use Rattle.model.specs.Limits.{need_listing, need_window}
-use Rattle.model.specs.Refusal.{short}
-use Rattle.intake.specs.Shown.{lent_out}
-use Rattle.intake.proofs.ShownLaws.{out_long, shown_lacking, shown_map, shown_refused, shown_unread}
-use Rattle.intake.proofs.listing.list_input.Given.{Over}
+use Rattle.std.proofs.Common.{Ok, Err, refl, sym}
+use Rattle.held.specs.Lent.{viewed}
+use Rattle.mapfile.proofs.ErrLaws.{err_is}
+use Rattle.mapfile.proofs.OwnLaws.{whole_long, zeros, zeros_whole}
+use Rattle.intake.specs.declared.listing.ListError.{ListError}
+use Rattle.intake.proofs.ShownLaws.{shown_map, shown_refused}
 use Rattle.intake.proofs.listing.list_input.Goals as goal
-use Rattle.intake.proofs.listing.list_input.Goals.{After-lacks-2}
 
--- what is lent, as it was judged
-judged : (g : Over) (c : After-lacks-2 g) → c.lacks-2.result ≡ short (lent_out c.args.buffer.now c.args.out.now)
-judged g c = lacks_short _ need_window _ c.lacks.result c.lacks-2.result c.lacks-2.ensures (lacks_short _ need_listing _ false c.lacks.result c.lacks.ensures none_short)
+pub returns-in_err-list_map-in-Ok : goal.returns-in_err-list_map-in-Ok
+returns-in_err-list_map-in-Ok g c =
+    let e = c.in_err-list_map-in-Ok.field-0.0 in
+    rw (err_is _ (ListError.Refused e) c.from_residual.ensures.1)
+    (shown_map c.args.out.now (sym c.if-is_short.ensures) _ (whole_long zeros zeros_whole) c.in-Ok.map c.in-Ok.ensures.said (viewed c.view.result) c.view.ensures (Err e) c.in_err-list_map-in-Ok.ensures)
 
-pub returns-then-lacks : goal.returns-then-lacks
-returns-then-lacks g c = shown_lacking _ _ _ c.refused.ensures (sym (judged g (goal.at.returns-then-lacks g c).After-lacks-2) ∙ c.if-lacks.true)
+pub returns-in_ok-list_map-in-Ok : goal.returns-in_ok-list_map-in-Ok
+returns-in_ok-list_map-in-Ok g c =
+    shown_map c.args.out.now (sym c.if-is_short.ensures) _ (whole_long zeros zeros_whole) c.in-Ok.map c.in-Ok.ensures.said (viewed c.view.result) c.view.ensures (Ok _) c.in_ok-list_map-in-Ok.ensures
 
-pub returns-in-Map : goal.returns-in-Map
-returns-in-Map g c =
-    let a = c.args in
-    let long = sym (judged g (goal.at.returns-in-Map g c).After-lacks-2) ∙ c.if-lacks.false in
-    let n = c.read_map-end.new in
-    let k = c.read_map-end.auto in
-    let t : Tables = tables_of n.cells n.points n.statuses n.blockers n.pairs in
-    let whole : Whole t = record { cells = k.cells; points = k.points; statuses = k.statuses; blockers = k.blockers; pairs = k.pairs } in
-    let enough = whole_enough t ((length a.out.now, need_listing) ∷ []) whole ((out_long _ _ long).1, tt) in
-    shown_map _ long {t' = t} c.read_map-end.ensures own_enough _ _ _ _ _ c.in-Map.is enough (λ M h. (t, h, (refl, refl, refl, refl, refl))) c.list_map-listed.ensures
-
-pub returns-in-Refused : goal.returns-in-Refused
-returns-in-Refused g c =
-    shown_refused _ (sym (judged g (goal.at.returns-in-Refused g c).After-lacks-2) ∙ c.if-lacks.false) c.read_map-end.ensures own_enough _ _ _ _ c.in-Refused.is c.put_refusal-n.ensures
-
-pub returns-in-Unread : goal.returns-in-Unread
-returns-in-Unread g c =
-    shown_unread _ (sym (judged g (goal.at.returns-in-Unread g c).After-lacks-2) ∙ c.if-lacks.false) c.read_map-end.ensures own_enough _ refl
+pub returns-in-Err-Refused : goal.returns-in-Err-Refused
+returns-in-Err-Refused g c =
+    shown_refused c.args.out.now (sym c.if-is_short.ensures) _ (whole_long zeros zeros_whole) c.in-Err-Refused.field-0-0 _ (rw (c.in-Err-Refused.is, c.in-Err-Refused.field-0-is) at c.read_map.ensures.said) (rw (c.number.ensures, c.in-Err-Refused.field-0-is) at c.put_refusal.ensures)

@@ -1,11 +1,13 @@
-use native.Mathlib.Omega.{arith}
 use mathlib.Core.Path.{refl}
-use Rattle.limits.proofs.EntryLaws.{ragged_is, whole_is}
+use borrow.Author.Tests.{eq-eqb, ne_eqb}
+use Rattle.limits.specs.Batches.{ragged}
 use Rattle.limits.proofs.judge.disorder.Goals as goal
 
 -- `judge::disorder`: a ragged batch, or one that does not ascend. Assumes nothing.
 pub returns-then-batch-ne0 : goal.returns-then-batch-ne0
-returns-then-batch-ne0 c = rw (ragged_is c.args.batch.now (λ z. omega (arith, c.if-batch-ne0.true, z))) refl
+unfolding ragged
+returns-then-batch-ne0 c = rw (ne_eqb _ 0 c.if-batch-ne0.true) refl
 
-pub returns : goal.returns
-returns c = rw (whole_is c.args.batch.now (omega (arith, c.if-batch-ne0.false))) c.unsorted.ensures
+pub returns-else-batch-ne0 : goal.returns-else-batch-ne0
+unfolding ragged
+returns-else-batch-ne0 c = rw (eq-eqb _ 0 c.if-batch-ne0.false) c.unsorted.ensures

@@ -1,39 +1,48 @@
-use Prim.Native.Nat.{◌+◌}
-use native.Mathlib.Omega.{arith}
-use mathlib.Core.Path.{◌≡◌, refl, sym, ap, ◌∙◌}
-use mathlib.Core.Bool.{◌||◌}
-use lib.ListN.{drop}
+use Prim.Native.Nat.{◌<◌}
+use mathlib.Core.Path.{◌≡◌, refl, sym, ◌∙◌}
+use lib.ListN.{length}
+use borrow.Author.Rules.{rules}
+use Rattle.std.specs.Slice.Iter.{chunks_exact_rest}
 use Rattle.model.specs.Limits.{max_coordinate}
-use Rattle.model.specs.Refusal.{off_map, outside}
-use Rattle.limits.specs.Batches.{entries}
+use Rattle.model.specs.Refusal.{off_map}
 use Rattle.limits.proofs.EntryLaws.{item, outside_next, outside_end}
-use Rattle.limits.proofs.SignedLaws.{back}
 use Rattle.limits.proofs.judge.outside.Goals as goal
+use Rattle.limits.proofs.judge.outside.Goals.{then-off_map-via-then-off_map, then-off_map-via-else-off_map+then-off_map-2}
 
-pub loop-i-init : goal.loop-i-init
-loop-i-init c = (omega arith, refl)
+pub loop-entry-init : goal.loop-entry-init
+loop-entry-init c =
+    let i = c.into_iter-entry-iterator.ensures.into_iter_gives in
+    let e = c.chunks_exact-entry-items.ensures in
+    rw i (e.size, rw e.rest refl)
 
 pub returns-then-off_map : goal.returns-then-off_map
 returns-then-off_map c =
-    let x-is : c.off_map.result ≡ off_map max_coordinate (item c.args.batch.now c.loop-i.i) = c.off_map.ensures ∙ ap (off_map max_coordinate) (back (item c.args.batch.now c.loop-i.i) c.off_map-arg-1.given) in
-    let b = c.args.batch.now in
-    let i = c.loop-i.i in
-    sym (c.loop-i.invariant.1 ∙ outside_next b i c.off_map.result (off_map max_coordinate (item b (i + 1))) (omega arith) x-is refl ∙ rw c.if-off_map.true refl)
+    let s = c.in-Some.ensures.steps in
+    let l = chunks_exact_rest c.loop-entry.entry-iterator in
+    let x = c.in-Some.entry.now in
+    let first : c.off_map.result ≡ off_map max_coordinate (item x 0) = search rules in
+    elim c.then-off_map.branch [
+      | then-off_map-via-then-off_map w ↦
+          sym (c.loop-entry.invariant.1 ∙ outside_next l x _ c.off_map.result (off_map max_coordinate (item x 1)) s.1.0 (s.1.1 ∙ c.loop-entry.invariant.0) first refl ∙ rw w.if-off_map.true refl)
+      | then-off_map-via-else-off_map+then-off_map-2 w ↦
+          let second : w.off_map-else-off_map.result ≡ off_map max_coordinate (item x 1) = search rules in
+          sym (c.loop-entry.invariant.1 ∙ outside_next l x _ c.off_map.result w.off_map-else-off_map.result s.1.0 (s.1.1 ∙ c.loop-entry.invariant.0) first second ∙ rw (w.if-off_map.false, w.if-off_map-2.true) refl)
+    ]
 
-pub returns-then-off_map-2 : goal.returns-then-off_map-2
-returns-then-off_map-2 c =
-    let x-is : c.off_map.result ≡ off_map max_coordinate (item c.args.batch.now c.loop-i.i) = c.off_map.ensures ∙ ap (off_map max_coordinate) (back (item c.args.batch.now c.loop-i.i) c.off_map-arg-1.given) in
-    let y-is : c.off_map-in-loop-i.result ≡ off_map max_coordinate (item c.args.batch.now (c.loop-i.i + 1)) = c.off_map-in-loop-i.ensures ∙ ap (off_map max_coordinate) (back (item c.args.batch.now (c.loop-i.i + 1)) c.off_map-arg-in-loop-i-1.given) in
-    let seen : outside (entries (drop c.loop-i.i c.args.batch.now)) ≡ c.off_map-in-loop-i.result || outside (entries (drop (c.loop-i.i + 3) c.args.batch.now)) = outside_next c.args.batch.now c.loop-i.i c.off_map.result c.off_map-in-loop-i.result (omega arith) x-is y-is ∙ rw c.if-off_map.false refl in
-    sym (c.loop-i.invariant.1 ∙ seen ∙ rw c.if-off_map-2.true refl)
-
-pub loop-i-preserved : goal.loop-i-preserved
-loop-i-preserved c =
-    let x-is : c.off_map.result ≡ off_map max_coordinate (item c.args.batch.now c.loop-i.i) = c.off_map.ensures ∙ ap (off_map max_coordinate) (back (item c.args.batch.now c.loop-i.i) c.off_map-arg-1.given) in
-    let y-is : c.off_map-in-loop-i.result ≡ off_map max_coordinate (item c.args.batch.now (c.loop-i.i + 1)) = c.off_map-in-loop-i.ensures ∙ ap (off_map max_coordinate) (back (item c.args.batch.now (c.loop-i.i + 1)) c.off_map-arg-in-loop-i-1.given) in
-    let seen : outside (entries (drop c.loop-i.i c.args.batch.now)) ≡ c.off_map-in-loop-i.result || outside (entries (drop (c.loop-i.i + 3) c.args.batch.now)) = outside_next c.args.batch.now c.loop-i.i c.off_map.result c.off_map-in-loop-i.result (omega arith) x-is y-is ∙ rw c.if-off_map.false refl in
-    (omega arith, c.loop-i.invariant.1 ∙ seen ∙ rw c.if-off_map-2.false refl)
+pub loop-entry-preserved : goal.loop-entry-preserved
+loop-entry-preserved c =
+    let s = c.in-Some.ensures.steps in
+    let l = chunks_exact_rest c.loop-entry.entry-iterator in
+    let x = c.in-Some.entry.now in
+    let first : c.off_map.result ≡ off_map max_coordinate (item x 0) = search rules in
+    let second : c.off_map-else-off_map.result ≡ off_map max_coordinate (item x 1) = search rules in (
+      s.0 ∙ c.loop-entry.invariant.0,
+      c.loop-entry.invariant.1 ∙ outside_next l x _ c.off_map.result c.off_map-else-off_map.result s.1.0 (s.1.1 ∙ c.loop-entry.invariant.0) first second ∙ rw (c.if-off_map.false, c.if-off_map-2.false) refl,
+    )
 
 pub returns : goal.returns
 returns c =
-    sym (c.loop-i.invariant.1 ∙ outside_end c.args.batch.now c.loop-i.i (omega arith))
+    let s = c.in-None.ensures.steps in
+    let l = chunks_exact_rest c.loop-entry.entry-iterator in
+    let h : length l < 3 = rw (← c.loop-entry.invariant.0) s.1.0 in
+    sym (c.loop-entry.invariant.1 ∙ outside_end l h)

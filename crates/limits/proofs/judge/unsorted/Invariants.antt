@@ -1,13 +1,13 @@
-use Prim.Native.Nat.{◌-◌, ◌≤◌}
 use mathlib.Core.Path.{◌≡◌}
-use lib.ListN.{length, drop}
+use lib.ListN.{drop}
+use Rattle.std.specs.Slice.Iter.{chunks_exact_rest, chunks_exact_size}
+use Rattle.std.specs.Iterator.Adapters.{zip_first, zip_second}
 use Rattle.model.specs.Refusal.{unsorted}
 use Rattle.limits.specs.Batches.{entries}
 use Rattle.limits.proofs.judge.unsorted.Given as goal
 
--- `judge::unsorted`: what is said of the whole is said of the entries from i on. Assumes nothing.
-abbrev pub invariant-loop-i : goal.invariant-loop-i
-invariant-loop-i l = (l.i ≤ length l.batch) × (unsorted (entries l.batch) ≡ unsorted (entries (drop l.i l.batch)))
-
-abbrev pub decreases-loop-i : goal.decreases-loop-i
-decreases-loop-i l = length l.batch - l.i
+-- `judge::unsorted`: what is said of the whole is said of the entries that are left. Assumes nothing.
+abbrev pub invariant-loop-a : goal.invariant-loop-a
+invariant-loop-a l = (chunks_exact_size (zip_first l.a-iterator) ≡ 3) × (chunks_exact_size (zip_second l.a-iterator) ≡ 3)
+    × (chunks_exact_rest (zip_second l.a-iterator) ≡ drop 3 (chunks_exact_rest (zip_first l.a-iterator)))
+    × (unsorted (entries l.batch) ≡ unsorted (entries (chunks_exact_rest (zip_first l.a-iterator))))

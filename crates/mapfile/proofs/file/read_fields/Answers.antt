@@ -1,43 +1,27 @@
-use Rattle.std.proofs.Common.{◌^◌, ◌<◌, length, drop, arith}
+use Rattle.std.proofs.Common.{refl, arith, Ok, Err}
 use Rattle.table.proofs.Parts.{tail_is}
-use Rattle.mapfile.specs.Reads.{FieldRead}
-use Rattle.held.specs.Holds.{Tables, tables_of}
-use Rattle.mapfile.proofs.FileLaws.{read_done, read_more, read_none, read_refused}
-use Rattle.held.proofs.RoomLaws.{SameLong, same_both, same_none}
+use Rattle.mapfile.proofs.ErrLaws.{err_is}
+use Rattle.mapfile.proofs.FileLaws.{read_ends, read_more, read_none, same_on}
 use Rattle.mapfile.proofs.file.read_fields.Goals as goal
-use Rattle.mapfile.proofs.file.read_fields.Goals.{After-one_field-reading}
-
--- the bytes are few
-small : (c : After-one_field-reading) → length c.args.bytes.now < 2 ^ 63
-small c = omega arith
-
--- what the field is read from, and the tables before and after it
-read : (c : After-one_field-reading) → let l = c.loop-next in let k = c.one_field-reading.new in
-    FieldRead l.reader (drop l.at c.args.bytes.now) (tables_of l.cells l.points l.statuses l.blockers l.pairs) (tables_of k.cells k.points k.statuses k.blockers k.pairs) c.one_field-reading.result
-read c = rw (tail_is c.loop-next.at c.args.bytes.now) at c.one_field-reading.ensures
 
 pub loop-next-init : goal.loop-next-init
-loop-next-init c =
-    let a = c.args in
-    let lent : Tables = tables_of a.cells.now a.points.now a.statuses.now a.blockers.now a.pairs.now in
-    (read_none a.bytes.now lent c.begin-reader.result c.begin-reader.ensures c.requires, same_none lent)
+loop-next-init c = record {
+  read = read_none _ _ _ c.begin-reader.ensures c.requires;
+  same = record { cells = refl; points = refl; statuses = refl; blockers = refl; pairs = refl };
+}
 
 pub loop-next-preserved : goal.loop-next-preserved
 loop-next-preserved c =
-    let p = (goal.at.loop-next-preserved c).After-one_field-reading in
-    let l = c.loop-next in
-    let k = c.one_field-reading.new in
-    let e = c.one_field-reading.auto in
-    let kept : SameLong (tables_of l.cells l.points l.statuses l.blockers l.pairs) (tables_of k.cells k.points k.statuses k.blockers k.pairs) =
-    record { cells = e.cells; points = e.points; statuses = e.statuses; blockers = e.blockers; pairs = e.pairs } in
-    (read_more l.invariant.0 (small p) (read p) c.in-More.next c.in-More.used c.in-More.is kept, same_both l.invariant.1 kept)
+    let i = c.loop-next.invariant in
+    record {
+      read = rw (tail_is c.in-More.used c.loop-next.rest.now) (read_more i.read (omega arith) _ _ (rw c.in-More.is at c.in_ok-next.ensures.said));
+      same = same_on i.same c.one_field.ensures.same;
+    }
 
-pub returns-in-Refused : goal.returns-in-Refused
-returns-in-Refused c =
-    let p = (goal.at.returns-in-Refused c).After-one_field-reading in
-    read_refused c.loop-next.invariant.0 (small p) (read p) c.in-Refused.number c.in-Refused.field c.refused.result c.in-Refused.is c.refused.ensures
+pub returns-in_err-next-clause-said : goal.returns-in_err-next-clause-said
+returns-in_err-next-clause-said c =
+    let e = c.in_err-next.field-0.0 in
+    rw (err_is _ e c.from_residual.ensures.1) (read_ends c.loop-next.invariant.read (omega arith) (Err e) c.in_err-next.ensures.said).0
 
-pub returns-in-Done : goal.returns-in-Done
-returns-in-Done c =
-    let p = (goal.at.returns-in-Done c).After-one_field-reading in
-    read_done c.loop-next.invariant.0 (small p) (read p) c.in-Done.map c.in-Done.is
+pub returns-in-Done-clause-said : goal.returns-in-Done-clause-said
+returns-in-Done-clause-said c = (read_ends c.loop-next.invariant.read (omega arith) (Ok c.in-Done.map) (rw c.in-Done.is at c.in_ok-next.ensures.said)).0

@@ -1,40 +1,22 @@
-use Rattle.std.proofs.Common.{◌≡◌, false, [], sym, refl, ◌∙◌}
-use Rattle.answers.proofs.PassedLaws.{none_short, tables_short}
-use Rattle.held.specs.Holds.{Tables, tables_of}
-use Rattle.held.specs.Holds as tables
-use Rattle.model.specs.Refusal.{short}
-use Rattle.mapfile.proofs.OwnLaws.{Whole, not_short, own_enough}
-use Rattle.mapfile.proofs.ReadLaws.{over_behind, over_holds, read_lacking, read_opens, read_refuses}
+-- `file::read_file`: read into tables of its own, and copied over the lent ones (ReadLaws.antt).
+use Rattle.std.proofs.Common.{sym}
+use Rattle.held.specs.Holds.{Tables}
+use Rattle.held.specs.Lent.{lists_of}
+use Rattle.mapfile.proofs.OwnLaws.{Whole, whole_long, whole_stays, zeros, zeros_whole}
+use Rattle.mapfile.proofs.ReadLaws.{over_behind, over_holds, read_opens}
 use Rattle.mapfile.proofs.file.read_file.Goals as goal
-use Rattle.mapfile.proofs.file.read_file.Goals.{Else-lacks_tables}
 
--- `file::read_file`: read into tables of its own, and copied over the lent ones. Assumes nothing.
--- the tables that are lent are long enough
-enough : (c : Else-lacks_tables) → let a = c.args in short (tables.needs (tables_of a.cells.now a.points.now a.statuses.now a.blockers.now a.pairs.now)) ≡ false
-enough c = sym (tables_short _ _ _ _ _ [] false c.lacks_tables.result c.lacks_tables.ensures none_short) ∙ c.if-lacks_tables.false
+pub read_fields-requires : goal.read_fields-requires
+read_fields-requires c = whole_long zeros zeros_whole
 
-pub returns-then-lacks_tables : goal.returns-then-lacks_tables
-returns-then-lacks_tables c =
-    read_lacking _ _ _ (sym (tables_short _ _ _ _ _ [] false c.lacks_tables.result c.lacks_tables.ensures none_short) ∙ c.if-lacks_tables.true) c.refused.ensures
-
-pub read_fields-opened-requires : goal.read_fields-opened-requires
-read_fields-opened-requires c = not_short _ own_enough
-
-pub returns-then-opened-ne0 : goal.returns-then-opened-ne0
-returns-then-opened-ne0 c =
-    read_refuses _ _ (enough (goal.at.returns-then-opened-ne0 c).Else-lacks_tables) _ _ _ refl c.if-opened-ne0.true c.read_fields-opened.ensures
-
-pub returns : goal.returns
-returns c =
+pub returns-clause-said : goal.returns-clause-said
+returns-clause-said c =
     let a = c.args in
-    let lent : Tables = tables_of a.cells.now a.points.now a.statuses.now a.blockers.now a.pairs.now in
-    let k = c.read_fields-opened.new in
-    let own : Tables = tables_of k.cells k.points k.statuses k.blockers k.pairs in
-    let o = c.read_fields-opened.result in
-    let e = c.read_fields-opened.auto in
-    let whole : Whole own = record { cells = e.cells; points = e.points; statuses = e.statuses; blockers = e.blockers; pairs = e.pairs } in
-    let t' = tables_of c.copy.new.to c.copy-2.new.to c.copy_bytes.new.to c.copy-3.new.to c.copy-4.new.to in
-    let l = enough (goal.at.returns c).Else-lacks_tables in
-    read_opens _ lent l own o t' o.refusal refl c.if-opened-ne0.false c.read_fields-opened.ensures
-    (λ M. over_holds own lent t' whole l c.copy.ensures c.copy-2.ensures c.copy_bytes.ensures c.copy-3.ensures c.copy-4.ensures o.map M)
-    (over_behind own lent t' whole l c.copy.ensures c.copy-2.ensures c.copy_bytes.ensures c.copy-3.ensures c.copy-4.ensures)
+    let k = c.in_ok-map.ensures in
+    let lent : Tables = lists_of a.tables.now in
+    let own : Tables = lists_of c.read_fields.new.tables in
+    let rooms = sym c.if-is_short.ensures in
+    let whole : Whole own = whole_stays c.in_ok-map.map zeros own k.said.0 zeros_whole k.behind k.said.2 in
+    read_opens _ lent rooms own _ c.in_ok-map.map k.said
+    (λ M. over_holds own lent _ whole rooms c.copy.ensures c.copy-2.ensures c.copy-3.ensures c.copy-4.ensures c.copy-5.ensures c.in_ok-map.map M)
+    (over_behind own lent _ whole rooms c.copy.ensures c.copy-2.ensures c.copy-3.ensures c.copy-4.ensures c.copy-5.ensures)

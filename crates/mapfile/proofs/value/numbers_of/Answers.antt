@@ -1,36 +1,26 @@
-use Rattle.std.proofs.Common.{◌+◌, ◌≤◌, length, pos, ap, ◌∙◌, arith, length-set, w64, SFits, rules}
-use mir.ValLaws.{to_z-of_z}
-use Rattle.mapfile.proofs.NumberLaws.{entry_room, lacks_room_lem, writing_done, writing_more}
+use Rattle.std.proofs.Common.{◌+◌, ◌*◌, ◌/◌, ◌≡◌, ◌<◌, ◌^◌, ℕ, length, get_or, ap, ◌∙◌, arith, w64, to_z}
+use mir.ValLaws.{to_z_pos}
+use Rattle.mapfile.proofs.NumberLaws.{writing_done, writing_more}
+use Rattle.mapfile.proofs.ValueLaws.{chunk_at, number_at}
 use Rattle.mapfile.proofs.value.numbers_of.Goals as goal
-use Rattle.mapfile.proofs.value.numbers_of.Goals.{In-loop-at}
 
--- there is room for an entry
-room : (c : In-loop-at) → c.loop-at.n + 3 ≤ length c.loop-at.out
-room c = let l = c.loop-at in let h = entry_room _ _ _ _ _ l.invariant c.loop-at-test.true in let e = l.invariant.long in omega arith
-
-pub returns-then-out-value : goal.returns-then-out-value
-returns-then-out-value c = lacks_room_lem c.args.value.now c.args.out.now c.if-out-value.true
-
-pub bounds-out-n : goal.bounds-out-n
-bounds-out-n c = let r = room (goal.at.bounds-out-n c).In-loop-at in omega arith
-
-pub bounds-out-n-in-loop-at : goal.bounds-out-n-in-loop-at
-bounds-out-n-in-loop-at c = let r = room (goal.at.bounds-out-n-in-loop-at c).In-loop-at in simp length-set (omega arith)
-
-pub bounds-out-n-in-loop-at-2 : goal.bounds-out-n-in-loop-at-2
-bounds-out-n-in-loop-at-2 c = let r = room (goal.at.bounds-out-n-in-loop-at-2 c).In-loop-at in simp length-set (omega arith)
-
-pub loop-at-preserved : goal.loop-at-preserved
-loop-at-preserved c =
-    let l = c.loop-at in
-    let a = c.args in
-    let hx : SFits w64 c.int_at.result = search rules in
-    let hy : SFits w64 c.int_at-in-loop-at.result = search rules in
-    let hf : SFits w64 (pos c.wide.result) = search rules in
-    writing_more a.value.now a.out.now l.out l.at l.n l.invariant _ _ _ c.loop-at-test.true (to_z-of_z w64 c.int_at.result hx ∙ c.int_at.ensures) (to_z-of_z w64 c.int_at-in-loop-at.result hy ∙ c.int_at-in-loop-at.ensures) (to_z-of_z w64 (pos c.wide.result) hf ∙ ap pos c.wide.ensures.0)
+pub loop-i-preserved : goal.loop-i-preserved
+loop-i-preserved c =
+    let v = c.args.value.now in
+    let i = c.loop-i.i in
+    let t = c.type_inv.value in
+    let e = c.as_chunks.ensures.front in
+    let h : i < length v / 9 = omega arith in
+    let at = λ (k j : ℕ) (l : k < 9) (p : 9 * i + k ≡ j). chunk_at _ v i k j e h l p in
+    let flag : get_or v (9 * i + 8) 0 < 2 ^ 63 = let f = (t (9 * i + 8)).fits in omega arith in
+    let x = number_at v (9 * i) _ _ _ _ _ t (omega arith) (at 0 _ (omega arith) (omega arith)) (at 1 _ (omega arith) (omega arith)) (at 2 _ (omega arith) (omega arith)) (at 3 _ (omega arith) (omega arith)) c.from_be_bytes.ensures in
+    let y = number_at v (9 * i + 4) _ _ _ _ _ t (omega arith) (at 4 _ (omega arith) (omega arith)) (at 5 _ (omega arith) (omega arith)) (at 6 _ (omega arith) (omega arith)) (at 7 _ (omega arith) (omega arith)) c.from_be_bytes-in-loop-i.ensures in
+    let z = ap (to_z w64) (at 8 (9 * i + 8) (omega arith) (omega arith)) ∙ to_z_pos w64 (get_or v (9 * i + 8) 0) flag in
+    let nine : 9 * (i + 1) ≡ 9 * i + 9 = omega arith in
+    let three : 3 * (i + 1) ≡ 3 * i + 3 = omega arith in
+    rw (nine, three) (writing_more v _ _ (9 * i) (3 * i) c.loop-i.invariant _ _ _ (omega arith) x y z)
 
 pub returns : goal.returns
 returns c =
-    let l = c.loop-at in
-    let a = c.args in
-    writing_done a.value.now a.out.now l.out l.at l.n l.invariant c.loop-at-test.false
+    let e : 3 * length c.as_chunks.result.0.now ≡ 3 * c.loop-i.i = omega arith in
+    rw e (writing_done _ _ _ _ _ c.loop-i.invariant (omega arith))

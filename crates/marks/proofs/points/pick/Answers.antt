@@ -1,26 +1,32 @@
-use Rattle.std.proofs.Common.{◌<◌, length, inl, inr, arith}
+use Rattle.std.proofs.Common.{inl, inr, length-append}
+use Rattle.std.proofs.lemmas.Slice.Zip.{zip_turn}
 use Rattle.marks.proofs.EndingLaws.{picked_none, picked_more, picked_pass, picked_full}
 use Rattle.marks.proofs.points.pick.Goals as goal
-use Rattle.marks.proofs.points.pick.Goals.{then-moods-i-ne0+then-n-out+then-n-told, else-moods-i-ne0, else-moods-i-ne0-via-then-moods-i-ne0+then-n-out+else-n-told, else-moods-i-ne0-via-then-moods-i-ne0+else-n-out, else-moods-i-ne0-via-else-moods-i-ne0}
+use Rattle.marks.proofs.points.pick.Goals.{else-word-ne0-via-then-word-ne0+then-n-out+else-n-told, else-word-ne0-via-then-word-ne0+else-n-out, else-word-ne0-via-else-word-ne0}
 
-pub loop-i-init : goal.loop-i-init
-loop-i-init c =
+pub loop-k-init : goal.loop-k-init
+loop-k-init c =
     let a = c.args in
     picked_none a.candidates.now a.moods.now a.out.now a.told.now
 
-pub loop-i-preserved : goal.loop-i-preserved
-loop-i-preserved c =
-    let l = c.loop-i in
+pub loop-k-preserved-then-n-told : goal.loop-k-preserved-then-n-told
+loop-k-preserved-then-n-told c =
+    let l = c.loop-k in
     let a = c.args in
-    let more : l.i < length a.moods.now = omega (arith, c.requires, c.loop-i-test.true) in
-    let pass = picked_pass a.candidates.now a.moods.now a.out.now l.out a.told.now l.told l.n l.i l.invariant more in
-    let full = picked_full a.candidates.now a.moods.now a.out.now l.out a.told.now l.told l.n l.i l.invariant more in
-    elim c.if-moods-i-ne0.branch [
-      | then-moods-i-ne0+then-n-out+then-n-told w ↦ rw (w.out-is, w.told-is, w.n-is)
-          (picked_more a.candidates.now a.moods.now a.out.now l.out a.told.now l.told l.n l.i l.invariant more w.if-moods-i-ne0.true w.if-n-out.true w.if-n-told.true)
-      | else-moods-i-ne0 w ↦ rw (w.out-is, w.told-is, w.n-is) (elim w.else-moods-i-ne0.branch [
-        | else-moods-i-ne0-via-then-moods-i-ne0+then-n-out+else-n-told x ↦ full x.if-moods-i-ne0.true (inr x.if-n-told.false)
-        | else-moods-i-ne0-via-then-moods-i-ne0+else-n-out x ↦ full x.if-moods-i-ne0.true (inl x.if-n-out.false)
-        | else-moods-i-ne0-via-else-moods-i-ne0 x ↦ pass x.if-moods-i-ne0.false
-      ])
-    ]
+    let x = c.in-Some in
+    let t = zip_turn a.candidates.now a.moods.now l.yielded c.into_iter-k-iterator.result l.k-iterator c.next.new.self c.next.result (cc) (cc) l.yielded_by (x.k, x.word) x.is c.next.ensures.steps in
+    rw (length-append, t.2 0, t.3 0)
+    (picked_more a.candidates.now a.moods.now a.out.now l.out a.told.now l.told l.n _ l.invariant t.1 (rw (t.3 0) at c.if-word-ne0.true) c.if-n-out.true c.if-n-told.true)
+
+pub loop-k-preserved : goal.loop-k-preserved
+loop-k-preserved c =
+    let l = c.loop-k in
+    let a = c.args in
+    let x = c.in-Some in
+    let t = zip_turn a.candidates.now a.moods.now l.yielded c.into_iter-k-iterator.result l.k-iterator c.next.new.self c.next.result (cc) (cc) l.yielded_by (x.k, x.word) x.is c.next.ensures.steps in
+    let full = picked_full a.candidates.now a.moods.now a.out.now l.out a.told.now l.told l.n _ l.invariant t.1 in
+    rw length-append (elim c.else-word-ne0.branch [
+      | else-word-ne0-via-then-word-ne0+then-n-out+else-n-told w ↦ full (rw (t.3 0) at w.if-word-ne0.true) (inr w.if-n-told.false)
+      | else-word-ne0-via-then-word-ne0+else-n-out w ↦ full (rw (t.3 0) at w.if-word-ne0.true) (inl w.if-n-out.false)
+      | else-word-ne0-via-else-word-ne0 w ↦ picked_pass a.candidates.now a.moods.now a.out.now l.out a.told.now l.told l.n _ l.invariant t.1 (rw (t.3 0) at w.if-word-ne0.false)
+    ])

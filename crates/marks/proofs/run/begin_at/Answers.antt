@@ -7,11 +7,11 @@ pub returns-then-stands_at : goal.returns-then-stands_at
 returns-then-stands_at c =
     let a = c.args in
     let stood = sym c.stands_at.ensures ∙ c.if-stands_at.true in
-    let i = stands_inside a.k c.place-at.result a.points.now stood in (
+    let i = stands_inside a.k c.place-at.result a.points.cells.now stood in (
       omega arith,
       omega (arith, i),
       refl,
-      λ ps e v o. begun_there a.points.now a.statuses.now ps e v o a.k c.place-at.result c.place-at.ensures.1 stood,
+      λ ps e v o. begun_there a.points.cells.now a.points.statuses.now ps e v o a.k c.place-at.result c.place-at.ensures.1 stood,
     )
 
 pub returns : goal.returns
@@ -20,5 +20,5 @@ returns c =
       omega arith,
       omega arith,
       refl,
-      λ ps e v o. begun_absent a.points.now a.statuses.now ps e v o a.k c.place-at.result c.place-at.ensures.1 (sym c.stands_at.ensures ∙ c.if-stands_at.false),
+      λ ps e v o. begun_absent a.points.cells.now a.points.statuses.now ps e v o a.k c.place-at.result c.place-at.ensures.1 (sym c.stands_at.ensures ∙ c.if-stands_at.false),
     )

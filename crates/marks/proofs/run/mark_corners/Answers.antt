@@ -1,7 +1,4 @@
-use Rattle.std.proofs.Common.{ap, ◌∙◌}
-use Rattle.corner.specs.Weights.{dir}
-use Rattle.model.specs.Cell.{Dir}
-use Rattle.model.specs.Corner.{bit}
+use Rattle.std.proofs.Common.{refl}
 use Rattle.marks.proofs.RunLaws.{four_none, four_more, four_done}
 use Rattle.marks.proofs.run.mark_corners.Goals as goal
 
@@ -15,8 +12,7 @@ loop-d-preserved c =
     let r = c.mark in
     let l = c.loop-d in
     let a = c.args in
-    four_more a.candidates.now a.moods.now l.moods a.k a.status a.shift a.n l.d l.invariant c.loop-d-test.true c.requires.2 (dir c.corner_at-corner.result) c.corner_at-corner.ensures c.shifted.result c.shifted.ensures c.get.result
-    (λ b e. c.get.ensures b e ∙ ap (λ (d : Dir). bit d b) c.corner_at-corner.ensures) r.new.moods r.auto.moods r.ensures.1
+    four_more a.candidates.now a.moods.now l.moods a.k a.status a.shift a.n l.d l.invariant c.loop-d-test.true c.requires.2 _ refl c.shifted-point.result c.shifted-point.ensures c.get.result c.get.ensures r.new.moods r.auto.moods r.ensures.1
 
 pub returns : goal.returns
 returns c =

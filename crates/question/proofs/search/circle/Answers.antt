@@ -6,4 +6,4 @@ use Rattle.question.proofs.search.circle.Goals as goal
 pub returns : goal.returns
 returns c =
     let s = c.args in
-    λ a i. circle_found s.size s.cells.now i c.first_round.result c.around.result (pt s.p) c.around-2.result s.radius c.new.result c.around.ensures c.around-2.ensures c.new.ensures (c.first_round.ensures a)
+    λ a i. circle_found s.size s.cells.now i c.first_taken.result c.around.result (pt s.p) c.around-rows.result s.radius c.new-circle.result c.around.ensures c.around-rows.ensures c.new-circle.ensures (c.first_taken.ensures a)

@@ -8,4 +8,4 @@ pub returns : goal.returns
 unfolding of_bits
 returns c =
     let s = c.args in
-    λ a i. square_found s.size s.cells.now i c.first_flat.result c.around.result (pt s.p) c.around-2.result s.width c.around.ensures c.around-2.ensures (c.first_flat.ensures a)
+    λ a i. square_found s.size s.cells.now i c.first_taken.result c.around.result (pt s.p) c.around-rows.result s.width c.around.ensures c.around-rows.ensures (c.first_taken.ensures a)

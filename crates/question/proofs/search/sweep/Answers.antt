@@ -21,4 +21,4 @@ returns c =
     let way : let s = c.args in c.norm-length.result ≡ norm (minus (pt s.p1) (pt s.p0)) = c.norm-length.ensures ∙ ap norm c.minus.ensures in
     let s = c.args in
     let t : lt (norm (minus (pt s.p1) (pt s.p0))) tiny ≡ false = rw way at c.if-length.false in
-    λ a i. sweep_found s.size s.cells.now i c.first_swept.result c.columns.result (pt s.p0) (pt s.p1) s.width c.new-strip.result t (c.new-strip.ensures way) c.columns.ensures (c.first_swept.ensures a)
+    λ a i. sweep_found s.size s.cells.now i c.first_taken.result c.columns.result (pt s.p0) (pt s.p1) s.width c.new-strip.result t (c.new-strip.ensures way) c.columns.ensures (c.first_taken.ensures a)

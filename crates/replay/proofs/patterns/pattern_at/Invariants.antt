@@ -1,10 +1,7 @@
--- `patterns::pattern_at`: what the digits not yet read make of the number so far stays the pattern (PatternLaws.antt).
-use Rattle.std.proofs.Common.{◌-◌, ◌≤◌}
-use Rattle.replay.proofs.PatternLaws.{Held}
+-- `patterns::pattern_at`: what the digits not yet read make of the number so far stays the pattern.
+use Rattle.std.proofs.Common.{◌≡◌, drop}
+use Rattle.replay.specs.Patterns.{hex, pattern_at}
 use Rattle.replay.proofs.patterns.pattern_at.Given as goal
 
-abbrev pub invariant-loop-i : goal.invariant-loop-i
-invariant-loop-i l = (l.i ≤ 16) × Held l.line l.from l.v l.i
-
-abbrev pub decreases-loop-i : goal.decreases-loop-i
-decreases-loop-i l = 16 - l.i
+abbrev pub invariant-loop-b : goal.invariant-loop-b
+invariant-loop-b l = hex l.v (drop l.b-index l.b-items) ≡ pattern_at l.line l.from

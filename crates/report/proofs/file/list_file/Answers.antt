@@ -1,31 +1,31 @@
-use Prim.Native.Nat.{◌≤◌}
-use native.Mathlib.Omega.{arith}
-use mathlib.Core.Path.{refl}
-use mathlib.Core.List.{[], ◌∷◌}
-use lib.ListN.{length}
-use Rattle.held.specs.Holds.{Tables, tables_of}
-use Rattle.model.specs.Limits.{need_listing}
-use Rattle.mapfile.proofs.OwnLaws.{Whole, not_short, own_enough, whole_enough}
+-- `file::list_file`: the file read into tables of its own, and its refusal or its map listed (EndLaws.antt).
+use Rattle.std.proofs.Common.{◌≡◌, refl, sym, subst, Err}
+use Rattle.limits.proofs.RefusalLaws.{number_some}
+use Rattle.held.specs.Holds.{Holds, Tables, needs}
+use Rattle.held.specs.Lent.{lists_of, viewed}
+use Rattle.model.specs.Map as model
+use Rattle.model.specs.MapFile.{done, read_file}
+use Rattle.held.proofs.RoomLaws.{long_enough}
+use Rattle.mapfile.proofs.FeedLaws.{held_long}
+use Rattle.mapfile.proofs.OwnLaws.{whole_long, zeros, zeros_whole}
+use Rattle.mapfile.specs.Told.{opened_told}
 use Rattle.mapfile.proofs.ReadLaws.{opened_done, opened_refused}
-use Rattle.report.proofs.EndLaws.{list_read, list_refused, list_short}
+use Rattle.report.proofs.EndLaws.{list_read, list_refused}
 use Rattle.report.proofs.file.list_file.Goals as goal
 
--- `file::list_file`: the file read into tables of its own, and its refusal or its map listed. Assumes nothing.
-pub returns-then-out-lt-LISTING : goal.returns-then-out-lt-LISTING
-returns-then-out-lt-LISTING c = list_short _ _ _ c.if-out-lt-LISTING.true c.refused.ensures
-
-pub returns-then-opened-ne0 : goal.returns-then-opened-ne0
-returns-then-opened-ne0 c =
-    list_refused _ _ (omega (arith, c.if-out-lt-LISTING.false)) _ _ _ _ (opened_refused _ _ _ _ c.if-opened-ne0.true (c.read_file-opened.ensures.reads (not_short _ own_enough))) c.put_refusal-n.ensures
-
-pub returns : goal.returns
-returns c =
+pub returns-in-Ok : goal.returns-in-Ok
+returns-in-Ok c =
     let a = c.args in
-    let room : need_listing ≤ length a.out.now = omega (arith, c.if-out-lt-LISTING.false) in
-    let k = c.read_file-opened.new in
-    let read : Tables = tables_of k.cells k.points k.statuses k.blockers k.pairs in
-    let l = c.read_file-opened.auto in
-    let whole : Whole read = record { cells = l.cells; points = l.points; statuses = l.statuses; blockers = l.blockers; pairs = l.pairs } in
-    let e = c.read_file-opened.result in
-    list_read a.bytes.now a.out.now room _ e.map read _ _ c.list_map.result
-    (opened_done a.bytes.now _ read e c.if-opened-ne0.false (c.read_file-opened.ensures.reads (not_short _ own_enough))) (whole_enough read ((length a.out.now, need_listing) ∷ []) whole (room, tt)) (λ M h. (read, h, (refl, refl, refl, refl, refl))) c.list_map.ensures
+    let m = c.in-Ok.map in
+    let t : Tables = viewed c.view.result in
+    let q = subst (λ (u : Tables). (M : model.Map) × (read_file a.bytes.now ≡ done M) × Holds m u M) (sym c.view.ensures)
+    (opened_done a.bytes.now zeros (lists_of c.read_file.new.tables) _ refl (c.in-Ok.ensures.said.reads (whole_long zeros zeros_whole))) in
+    let e = long_enough (needs t) (held_long m t q.0 q.2) in
+    list_read a.bytes.now a.out.now c.if-out-lt-LISTING.false _ m t _ _ _ q (e.0, (e.1.0, (e.1.1.0, (e.1.1.1.0, (e.1.1.1.1.0, (c.if-out-lt-LISTING.false, tt)))))) (λ M h. (t, h, (refl, refl, refl, refl, refl))) c.list_map.ensures
+
+pub returns-in-Err : goal.returns-in-Err
+returns-in-Err c =
+    let a = c.args in
+    let x = c.in-Err.field-0 in
+    list_refused a.bytes.now a.out.now c.if-out-lt-LISTING.false _ _ _ _
+    (opened_refused a.bytes.now zeros (lists_of c.read_file.new.tables) (opened_told (Err x)) (number_some x.refusal) (c.in-Err.ensures.said.reads (whole_long zeros zeros_whole))) (rw c.number.ensures at c.put_refusal.ensures)

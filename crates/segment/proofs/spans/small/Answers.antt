@@ -1,11 +1,13 @@
+use Rattle.std.proofs.Common.{arith}
+use Rattle.std.proofs.lemmas.Grind.{common_steps}
 use lib.Ieee.{neg, of_bits}
-use mathlib.Core.Bool.{false≢true}
 use Rattle.segment.proofs.spans.small.Goals as goal
 
 -- `spans::small`: both comparisons were yes. Assumes nothing.
-pub returns-then-x-2 : goal.returns-then-x-2
+pub returns-then-x : goal.returns-then-x
 unfolding of_bits neg
-returns-then-x-2 c = λ h. (c.if-x.true, c.if-x-2.true)
+returns-then-x c = grind (arith, common_steps)
 
-pub returns : goal.returns
-returns c = λ h. absurd (false≢true h)
+pub returns-else-x : goal.returns-else-x
+unfolding of_bits neg
+returns-else-x c = grind (arith, common_steps)

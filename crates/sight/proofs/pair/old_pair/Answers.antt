@@ -19,8 +19,8 @@ returns-then-at-old c = λ P w v s e f x y.
     let a = c.args in
     old_at P w v a.old.now a.a a.b s e f c.if-a-eq0.false c.if-b-eq0.false x y
 
-pub returns : goal.returns
-returns c = λ P w v s e f x y.
+pub returns-else-at-old : goal.returns-else-at-old
+returns-else-at-old c = λ P w v s e f x y.
     let a = c.args in
     sym (get_or-eq_default a.old.now 0 c.if-at-old.false)
     ∙ old_at P w v a.old.now a.a a.b s e f c.if-a-eq0.false c.if-b-eq0.false x y

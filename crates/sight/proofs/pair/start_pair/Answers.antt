@@ -29,24 +29,24 @@ pub returns-then-held-eq1 : goal.returns-then-held-eq1
 returns-then-held-eq1 c = λ P w v o i s n e f x y.
     let a = c.args in
     let r = c.old_pair-held in
-    start_open (tests a.size a.radius) a.cells.now P a.p w a.q v r.result (held a.was a.other w v e f P a.old.now r.result r.ensures s x y) n c.if-held-eq1.true
+    start_open (tests a.ground.size a.ground.radius) a.ground.cells.now P a.p.key w a.q.key v r.result (held a.p.mood a.q.mood w v e f P a.old.now r.result r.ensures s x y) n c.if-held-eq1.true
 
 pub returns-then-held-ne0 : goal.returns-then-held-ne0
 returns-then-held-ne0 c = λ P w v o i s n e f x y.
     let a = c.args in
     let r = c.old_pair-held in
-    start_held (tests a.size a.radius) a.cells.now P a.p w a.q v r.result (held a.was a.other w v e f P a.old.now r.result r.ensures s x y) c.if-held-ne0.true c.if-held-eq1.false
+    start_held (tests a.ground.size a.ground.radius) a.ground.cells.now P a.p.key w a.q.key v r.result (held a.p.mood a.q.mood w v e f P a.old.now r.result r.ensures s x y) c.if-held-ne0.true c.if-held-eq1.false
 
 pub returns-then-is_sooner : goal.returns-then-is_sooner
 returns-then-is_sooner c = λ P w v o i s n e f x y.
     let a = c.args in
     let r = c.old_pair-held in
     c.sweep_between.ensures o i
-    ∙ start_new (tests a.size a.radius) a.cells.now P a.p w a.q v r.result (held a.was a.other w v e f P a.old.now r.result r.ensures s x y) n c.if-held-ne0.false true (queued a.was a.other w v e f true c.is_sooner.result c.is_sooner.ensures c.if-is_sooner.true)
+    ∙ start_new (tests a.ground.size a.ground.radius) a.ground.cells.now P a.p.key w a.q.key v r.result (held a.p.mood a.q.mood w v e f P a.old.now r.result r.ensures s x y) n c.if-held-ne0.false true (queued a.p.mood a.q.mood w v e f true c.is_sooner.result c.is_sooner.ensures c.if-is_sooner.true)
 
 pub returns : goal.returns
 returns c = λ P w v o i s n e f x y.
     let a = c.args in
     let r = c.old_pair-held in
     c.sweep_between-2.ensures o i
-    ∙ start_new (tests a.size a.radius) a.cells.now P a.p w a.q v r.result (held a.was a.other w v e f P a.old.now r.result r.ensures s x y) n c.if-held-ne0.false false (queued a.was a.other w v e f false c.is_sooner.result c.is_sooner.ensures c.if-is_sooner.false)
+    ∙ start_new (tests a.ground.size a.ground.radius) a.ground.cells.now P a.p.key w a.q.key v r.result (held a.p.mood a.q.mood w v e f P a.old.now r.result r.ensures s x y) n c.if-held-ne0.false false (queued a.p.mood a.q.mood w v e f false c.is_sooner.result c.is_sooner.ensures c.if-is_sooner.false)

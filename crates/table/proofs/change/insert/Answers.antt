@@ -1,6 +1,5 @@
-use Prim.Native.Nat.{◌+◌, ◌≤◌}
 use native.Mathlib.Omega.{arith}
-use mathlib.Core.Path.{◌≡◌, sym, ◌∙◌}
+use mathlib.Core.Path.{◌≡◌, ◌∙◌}
 use lib.ListN.{length, take}
 use lib.Seq.{length-take-le}
 use Rattle.table.specs.Tables.{added}
@@ -15,31 +14,15 @@ returns-then-t-n c =
     changed_none (added (length s.t.now) s.k) s.t.now s.n
     (λ T. let e : s.n ≡ length s.t.now = omega arith in added_full (length s.t.now) s.k (take s.n s.t.now) T.asc (length-take-le s.n s.t.now T.room ∙ e))
 
-pub slice_bounds-place-end-2 : goal.slice_bounds-place-end-2
-slice_bounds-place-end-2 c = let s = c.args in sym (length-take-le s.n s.t.now (omega arith))
-
-pub slice_bounds-stands_at-end-2 : goal.slice_bounds-stands_at-end-2
-slice_bounds-stands_at-end-2 c = let s = c.args in sym (length-take-le s.n s.t.now (omega arith))
-
-pub returns-then-stands_at : goal.returns-then-stands_at
-returns-then-stands_at c =
+pub returns-in_default : goal.returns-in_default
+returns-in_default c =
     let s = c.args in
-    let u = take s.n s.t.now in
-    let seen = sym c.stands_at.ensures ∙ c.if-stands_at.true in
+    let f = c.in_default.ensures in
     changed_none (added (length s.t.now) s.k) s.t.now s.n
-    (λ T. added_there (length s.t.now) s.k u (there s.k c.place-at.result u T.asc (c.place-at.ensures.1 T.asc) seen))
-
-pub slice_bounds-put_at-end-2 : goal.slice_bounds-put_at-end-2
-slice_bounds-put_at-end-2 c = let s = c.args in sym (length-take-le (s.n + 1) s.t.now (omega arith))
-
-pub put_at-requires : goal.put_at-requires
-put_at-requires c =
-    let s = c.args in
-    let h : c.place-at.result ≤ length (take s.n s.t.now) = c.place-at.ensures.0 in
-    omega (arith, length-take-le s.n s.t.now (omega arith), length-take-le (s.n + 1) s.t.now (omega arith))
+    (λ T. added_there (length s.t.now) s.k (take s.n s.t.now) (there s.k c.in_default.field-0 (take s.n s.t.now) T.asc (f.0.place T.asc) f.1))
 
 pub returns : goal.returns
 returns c =
     let s = c.args in
-    inserted s.t.now s.n s.k c.place-at.result c.place-at.ensures.1 c.put_at.new.t
-    c.if-t-n.false (sym c.stands_at.ensures ∙ c.if-stands_at.false) c.put_at.ensures
+    let f = c.in-Err.ensures in
+    inserted s.t.now s.n s.k c.in-Err.at f.0.place c.put_at.new.t c.if-t-n.false f.1 c.put_at.ensures

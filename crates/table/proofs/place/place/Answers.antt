@@ -9,18 +9,18 @@ returns-then-t-eq0 c =
     let p = placed_none a.t.now c.if-t-eq0.true a.k in
     (p.inside, p.place)
 
-pub exponent-s-requires : goal.exponent-s-requires
-exponent-s-requires c = omega (arith, c.if-t-eq0.false)
+pub exponent-first-requires : goal.exponent-first-requires
+exponent-first-requires c = omega (arith, c.if-t-eq0.false)
 
 pub begin-at-requires : goal.begin-at-requires
 begin-at-requires c =
-    let s = c.exponent-s in
+    let s = c.exponent-first in
     rw c.power.ensures (pow_pos s.result, s.ensures.1)
 
 pub loop-s-init : goal.loop-s-init
 loop-s-init c =
     let a = c.args in
-    let s = c.exponent-s in
+    let s = c.exponent-first in
     (s.ensures.0, rw (c.begin-at.ensures, c.power.ensures) (within_first a.k a.t.now s.result s.ensures.1 s.ensures.2))
 
 pub look-at-requires : goal.look-at-requires

@@ -1,46 +1,34 @@
 use native.Mathlib.Omega.{arith}
 use lib.Pow.{pow_pos}
-use Rattle.table.proofs.SearchLaws.{searches_first, searches_room, searches_last_room, searches_next, searches_last}
+use Rattle.table.proofs.SearchLaws.{within_first, within_last, within_last_room, within_next, within_room}
 use Rattle.table.proofs.places.places_from.Goals as goal
 
-pub begin_all-f-requires : goal.begin_all-f-requires
-begin_all-f-requires c =
-    let s = c.exponent-s in
+pub begin_all-requires : goal.begin_all-requires
+begin_all-requires c =
+    let s = c.exponent-first in
     rw c.power.ensures (pow_pos s.result, s.ensures.1, c.requires.0)
 
 pub loop-s-init : goal.loop-s-init
 loop-s-init c =
-    let a = c.args in
-    let s = c.exponent-s in
-    let f = c.begin_all-f.result in
-    searches_first a.t.now a.low f.a f.b f.c f.d f.e s.result c.power.result s.ensures.0 s.ensures.1 s.ensures.2 c.power.ensures c.begin_all-f.ensures
-
-pub look_all-f-requires : goal.look_all-f-requires
-look_all-f-requires c =
-    let a = c.args in
-    let l = c.loop-s in
-    let f = l.f in
-    (omega (arith, l.invariant.few), c.requires.0, searches_room a.t.now a.low f.a f.b f.c f.d f.e l.s c.loop-s-test.true l.invariant)
-
-pub loop-s-preserved : goal.loop-s-preserved
-loop-s-preserved c =
-    let a = c.args in
-    let l = c.loop-s in
-    let f = l.f in
-    let g = c.look_all-f.result in
-    searches_next a.t.now a.low f.a f.b f.c f.d f.e g.a g.b g.c g.d g.e l.s l.invariant c.loop-s-test.true c.look_all-f.ensures
+    let s = c.exponent-first in
+    (s.ensures.0, λ i h. rw (c.begin_all.ensures i h, c.power.ensures) (within_first _ c.args.t.now s.result s.ensures.1 s.ensures.2))
 
 pub look_all-requires : goal.look_all-requires
 look_all-requires c =
-    let a = c.args in
     let l = c.loop-s in
-    let f = l.f in
-    (omega arith, c.requires.0, searches_last_room a.t.now a.low f.a f.b f.c f.d f.e l.s c.loop-s-test.false l.invariant)
+    (omega (arith, l.invariant.0), c.requires.0, λ i h. within_room _ c.args.t.now _ l.s c.loop-s-test.true (l.invariant.1 i h))
+
+pub loop-s-preserved : goal.loop-s-preserved
+loop-s-preserved c =
+    let l = c.loop-s in
+    (omega (arith, l.invariant.0), λ i h. rw (c.look_all.ensures i h) (within_next _ c.args.t.now _ l.s c.loop-s-test.true (l.invariant.1 i h)))
+
+pub look_all-requires-2 : goal.look_all-requires-2
+look_all-requires-2 c =
+    let l = c.loop-s in
+    (omega arith, c.requires.0, λ i h. within_last_room _ c.args.t.now _ l.s c.loop-s-test.false (l.invariant.1 i h))
 
 pub returns : goal.returns
 returns c =
-    let a = c.args in
     let l = c.loop-s in
-    let f = l.f in
-    let g = c.look_all.result in
-    searches_last a.t.now a.low f.a f.b f.c f.d f.e g.a g.b g.c g.d g.e l.s l.invariant c.loop-s-test.false c.look_all.ensures
+    λ i h. rw (c.look_all-2.ensures i h) (within_last _ c.args.t.now _ l.s c.loop-s-test.false (l.invariant.1 i h))

@@ -11,8 +11,8 @@ pub returns : goal.returns
 returns c =
     let a = c.args in
     let b = a.batch.now in
-    batch_judged a.short a.map b _ c.first_due.ensures
-    (due_added 9 0 _ _ c.due-3.ensures refl refl
-    (due_added 1 0 _ _ c.due-2.ensures refl c.bad_size.ensures
-    (due_added 2 0 _ _ c.due-known.ensures refl c.bad_radius.ensures
-    (c.batch_due-read.ensures ∙ ap (λ (w : ℕ). word_on w (looked b)) (due_added 6 0 _ [] c.due.ensures refl refl (none_added 0)) ∙ both_added 0 (looked b) _))))
+    batch_judged a.short a.map b _ c.first.ensures
+    (due_added 9 0 _ _ c.and-3.ensures refl refl
+    (due_added 1 0 _ _ c.and-2.ensures refl c.bad_size.ensures
+    (due_added 2 0 _ _ c.and.ensures refl c.bad_radius.ensures
+    (c.batch_due.ensures ∙ ap (λ (w : ℕ). word_on w (looked b)) (due_added 6 0 _ [] c.and-crowded.ensures refl refl (c.none.ensures ∙ none_added 0)) ∙ both_added 0 (looked b) _))))

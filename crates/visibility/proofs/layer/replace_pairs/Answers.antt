@@ -4,8 +4,8 @@ use Rattle.visibility.proofs.RowLaws.{rows_copied, rows_more}
 use Rattle.visibility.proofs.layer.replace_pairs.Goals as goal
 
 pub returns : goal.returns
-returns c = λ ch S P seeing named w.
+returns g c = λ ch S P seeing named w.
     let a = c.args in
-    let h = c.greater-rows.ensures in
-    c.draw_pairs.ensures ch S P P seeing (omega (arith, (seeing_fits seeing).count, h.0)) (rows_copied a.count P a.pairs.now w a.kept.now c.copy.new.to c.requires.2 c.requires.3 c.copy.ensures) named
-    (rows_more a.count P a.pairs.now w c.greater-rows.result h.1 (h.2 64 c.requires.0 c.requires.1))
+    let k = c.max-rows.ensures in
+    c.draw_pairs.ensures ch S P P seeing (omega (arith, (seeing_fits seeing).count, k)) (rows_copied a.count P a.pairs.now w g.row.N c.copy.new.to (omega arith) (omega arith) c.copy.ensures) named
+    (rows_more a.count P a.pairs.now w c.max-rows.result (omega (arith, k)) (omega (arith, k)))

@@ -1,71 +1,51 @@
-use Rattle.std.proofs.Common.{◌≡◌, ◌≤◌, length, take, refl, sym, ◌∙◌, arith, length-take-le}
-use Rattle.held.specs.declared.map.Map.{Map}
-use Rattle.model.specs.Limits.{max_cells}
-use Rattle.model.specs.Refusal.{short}
-use Rattle.held.specs.Holds.{Tables, tables_of}
-use Rattle.held.specs.Holds as tables
-use Rattle.held.proofs.RoomLaws.{Enough}
-use Rattle.visibility.specs.Radius.{refuse_radius}
-use Rattle.visibility.proofs.RebuildLaws.{rebuild_cells, rebuild_done, rebuild_input, rebuild_packed, rebuild_points, rebuild_room}
+use Rattle.std.proofs.Common.{ℕ, refl, arith}
+use lib.ListN.{length-take}
+use Rattle.visibility.specs.Lent.{over}
+use Rattle.visibility.proofs.RefuseLaws.{named_refusal}
+use Rattle.visibility.proofs.RebuildLaws.{rebuild_done, rebuild_input, rebuild_packed, rebuild_passed, rebuild_points, rebuild_room, rebuild_used}
 use Rattle.visibility.proofs.radius.change_radius.Goals as goal
-use Rattle.visibility.proofs.radius.change_radius.Goals.{After-judge-number}
 
 -- `radius::change_radius`: the refusal that applies, or the layer built anew for the radius. Assumes nothing.
--- the tables that are lent, and what the tests say of them
-abbrev lent : After-judge-number → Tables
-lent j = let a = j.args in tables_of a.cells.now a.points.now a.statuses.now a.blockers.now a.pairs.now
+pub returns-in_err-judge-clause-said : goal.returns-in_err-judge-clause-said
+returns-in_err-judge-clause-said c =
+    let a = c.args in
+    rebuild_input a.map a.radius (over a.cells.now a.layer.now) _ c.in_err-judge.field-0.0 c.from_residual.ensures.1
+    (rw c.is_short.ensures at c.in_err-judge.ensures)
 
-due : (j : After-judge-number) → j.judge-number.result ≡ refuse_radius (short (tables.needs (lent j))) j.args.map j.args.radius
-due j = rw (← j.short_tables-short.ensures) j.judge-number.ensures
+pub slice_bounds-cells-end : goal.slice_bounds-cells-end
+slice_bounds-cells-end c =
+    let a = c.args in
+    let t = over a.cells.now a.layer.now in
+    rebuild_used a.map a.radius t (rebuild_passed a.map a.radius t c.is_short.result c.in_ok-judge.ensures c.is_short.ensures)
 
--- where none refuses
-module _ (j : After-judge-number) (z : j.judge-number.result ≡ 0) where
-  abbrev m : Map
-  m = j.args.map
-
-  none : refuse_radius (short (tables.needs (lent j))) m j.args.radius ≡ 0
-  none = sym (due j) ∙ z
-
-  few : m.cells ≤ max_cells
-  few = rebuild_cells m j.args.radius (lent j) none
-
-  room : Enough (tables.needs (lent j))
-  room = rebuild_room m j.args.radius (lent j) none
-
-  -- the used cells
-  used : length (take m.cells j.args.cells.now) ≡ m.cells
-  used = let k = room.0 in length-take-le m.cells j.args.cells.now (omega (arith, few, k))
-
-pub returns-then-number-ne0 : goal.returns-then-number-ne0
-returns-then-number-ne0 c =
-    let j = (goal.at.returns-then-number-ne0 c).After-judge-number in
-    rebuild_input c.args.map c.args.radius (lent j) c.judge-number.result c.refused.result (due j) c.if-number-ne0.true c.refused.ensures
-
-pub slice_bounds-corner_cells-end : goal.slice_bounds-corner_cells-end
-slice_bounds-corner_cells-end c = sym (used (goal.at.slice_bounds-corner_cells-end c).After-judge-number c.if-number-ne0.false)
-
-pub returns-then-m-gt-POINTS : goal.returns-then-m-gt-POINTS
-returns-then-m-gt-POINTS c =
-    let j = (goal.at.returns-then-m-gt-POINTS c).After-judge-number in
-    rebuild_packed c.args.map c.args.radius (lent j) (none j c.if-number-ne0.false) c.corner_cells-found.ensures.0 c.shift_of-shift.ensures c.mark_points-m.ensures
-    c.refused-then-m-gt-POINTS.result c.if-m-gt-POINTS.true c.refused-then-m-gt-POINTS.ensures
-
-pub slice_bounds-draw_afresh-end : goal.slice_bounds-draw_afresh-end
-slice_bounds-draw_afresh-end c = sym (used (goal.at.slice_bounds-draw_afresh-end c).After-judge-number c.if-number-ne0.false)
+pub returns-in_err-points-clause-said : goal.returns-in_err-points-clause-said
+returns-in_err-points-clause-said c =
+    let a = c.args in
+    let t = over a.cells.now a.layer.now in
+    let x = c.in_err-points.ensures in
+    rebuild_packed a.map a.radius t (rebuild_passed a.map a.radius t c.is_short.result c.in_ok-judge.ensures c.is_short.ensures) c.mark.new.present c.mark.new.moods c.corner_cells-found.ensures.0 c.shift_of-shift.ensures _
+    (rw x.ok_part at c.mark.ensures.marked) c.in_err-points.field-0.0 c.from_residual-in_err-points.ensures.1 (named_refusal c.mark.result _ c.in_err-points.field-0.0 x.ok_part x.value)
 
 pub draw_afresh-requires : goal.draw_afresh-requires
 draw_afresh-requires c =
-    let j = (goal.at.draw_afresh-requires c).After-judge-number in (
-      c.if-m-gt-POINTS.false,
-      rebuild_points c.args.map c.args.radius (lent j) (none j c.if-number-ne0.false),
-      omega arith,
-      omega arith,
-      (room j c.if-number-ne0.false).1.1.1.1.0,
+    let a = c.args in
+    let t = over a.cells.now a.layer.now in
+    let z = rebuild_passed a.map a.radius t c.is_short.result c.in_ok-judge.ensures c.is_short.ensures in
+    let n = c.in_ok-points.points in
+    let k = c.mark.new in
+    let x = length-take {A = ℕ} n k.present in
+    let y = length-take {A = ℕ} n k.moods in
+    let p = c.mark.array_long in
+    let q = c.mark.array_long2 in (
+      omega (arith, x, p),
+      omega (arith, y, q),
+      rebuild_points a.map a.radius t z,
+      (rebuild_room a.map a.radius t z).1.1.1.1.0,
     )
 
-pub returns : goal.returns
-returns c =
-    let j = (goal.at.returns c).After-judge-number in
-    let z = c.draw_afresh.new in
-    rebuild_done c.args.map c.args.radius (lent j) (none j c.if-number-ne0.false) c.corner_cells-found.ensures.0 c.shift_of-shift.ensures c.mark_points-m.ensures
-    (tables_of c.args.cells.now z.points z.statuses z.blockers z.pairs) c.reach_of.result refl c.if-m-gt-POINTS.false c.reach_of.ensures c.draw_afresh.ensures
+pub returns-clause-said : goal.returns-clause-said
+returns-clause-said c =
+    let a = c.args in
+    let t = over a.cells.now a.layer.now in
+    rebuild_done a.map a.radius t (rebuild_passed a.map a.radius t c.is_short.result c.in_ok-judge.ensures c.is_short.ensures) c.mark.new.present c.mark.new.moods c.corner_cells-found.ensures.0 c.shift_of-shift.ensures
+    c.in_ok-points.points (over a.cells.now c.draw_afresh.new.layer) c.reach_of.result (rw c.in_ok-points.ensures.ok_part at c.mark.ensures.marked) refl c.reach_of.ensures c.draw_afresh.ensures.drawn

@@ -1,6 +1,0 @@
--- `list::write_pairs` ends: the pairs that are left fall.
-use Rattle.std.proofs.Common.{◌-◌}
-use Rattle.map_vectors.proofs.list.write_pairs.Given as goal
-
-abbrev pub decreases-loop-i : goal.decreases-loop-i
-decreases-loop-i g l = l.count - l.i

@@ -1,8 +1,0 @@
-use mathlib.Core.Path.{refl}
-use Rattle.model.specs.Plane.{minus}
-use Rattle.plane.proofs.point.Point.less.Goals as goal
-
--- `point::Point::less` is the model's `minus`, step for step. Assumes nothing.
-pub returns : goal.returns
-unfolding minus
-returns c = refl

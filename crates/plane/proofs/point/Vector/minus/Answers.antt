@@ -1,8 +1,0 @@
-use mathlib.Core.Path.{refl}
-use Rattle.model.specs.Plane.{minus}
-use Rattle.plane.proofs.point.Vector.minus.Goals as goal
-
--- `point::Vector::minus` is the model's `minus`, step for step. Assumes nothing.
-pub returns : goal.returns
-unfolding minus
-returns c = refl

@@ -1,0 +1,16 @@
+-- `pairs::Pair::put`: how the line begins, the other cell, how it ends.
+use Rattle.std.proofs.Common.{◌≤◌, ◌∙◌, length, arith}
+use Rattle.model.specs.Listing.{blocker_text, cell_text, text}
+use Rattle.print.specs.Printed.{block_of}
+use Rattle.print.proofs.PutLaws.{put_all, put_then}
+use Rattle.print.proofs.pairs.PairLineU64.put.Goals as goal
+
+pub returns : goal.returns
+unfolding cell_text text
+returns c =
+    let p = c.start.ensures in
+    let q = c.cell.ensures in
+    let r = c.end.ensures in
+    let h : c.args.to.now.at ≤ length c.args.to.now.out.now = omega arith in
+    let put = put_all (put_then p.put h q.put) h (text " ") (blocker_text (block_of c.args.block)) (text "\n") r.put in
+    record { put = put; few = omega arith; long = omega arith; same = r.same ∙ q.same ∙ p.same }

@@ -1,0 +1,14 @@
+use Rattle.std.proofs.Common.{arith}
+use Rattle.print.proofs.NumberLaws.{few_digits, numbering_done, numbering_more}
+use Rattle.print.proofs.printer.Printer.number.Goals as goal
+
+pub loop-i-preserved : goal.loop-i-preserved
+loop-i-preserved c =
+    let i = c.loop-i.invariant in
+    (numbering_more i.0 _ (omega arith) (omega arith) (omega arith), i.1)
+
+pub returns : goal.returns
+returns c =
+    let i = c.loop-i.invariant in
+    let l = few_digits c.args.n (omega arith) in
+    record { put = numbering_done i.0 (omega arith); few = omega arith; long = i.0.long; same = i.1 }

@@ -1,3 +1,0 @@
--- The laws of crate `replay`.
-pub mod EnterLaws
-pub mod PatternLaws
