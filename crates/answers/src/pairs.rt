@@ -14,7 +14,8 @@ use limits::lent::is_short;
 use limits::refusal::Refusal;
 use sizes::{LISTED, PAIRS, POINTS};
 
-// The pairs of the i-th point with those after it, after the `count` pairs that are listed already.
+// The pairs of the i-th point with those after it, after the `count` pairs that are listed already. Rows go by places: the pair of two
+// points is at 64 * i + j. Its number is that of C's table: 0, 1 for an open one, or a key.
 fn list_row(
     points: &[u64],
     pairs: &[u64],

@@ -11,7 +11,7 @@ use limits::refusal::Refusal;
 use plane::point::Point;
 use question::numbered::question_of;
 
-// The refusal's number, whether a cell was found, and the cell; all else is zero where there is none.
+// As C has it: the refusal's number, whether a cell was found, and the cell; all else is zero where there is none.
 #[repr(C)]
 #[derive(Clone, Copy)]
 pub struct Found {

@@ -58,6 +58,7 @@ pub fn count_after(cells: &[u64], batch: &[i64]) -> usize
 
 // Lists the confirmed changes, each with 1 for occupied or 0 for free, and returns how many there are. Nothing is
 // written where there is no room for as many as the batch has entries.
+// Without room the answer is 0: it may not change what it promises.
 // Cells and flags are two lists, and not one of pairs: C lends them so.
 pub fn confirm(cells: &[u64], batch: &[i64], out: &mut [u64], full: &mut [u8]) -> usize
     ensures { (AscL 0 cells.now → unsorted (entries batch.now) ≡ false → outside (entries batch.now) ≡ false

@@ -71,7 +71,7 @@ impl Cells<'_> {
     }
 }
 
-// The blocks of ascending cells. Of more than 1,024 none are counted.
+// The blocks of ascending cells. Of more than 1,024 none are counted, and the answer is 0, as it promises.
 pub fn count_blocks(cells: &[u64]) -> usize
     ensures { Counted cells.now result }
 {

@@ -7,6 +7,7 @@ use crate::status::status_of;
 
 // The cells that have a corner, ascending, with their statuses. Returns how many there are. Nothing is written where
 // there is no room for as many as there are cells.
+// Without room the answer is 0: it may not change what it promises. Cells and statuses are two lists: C lends them so.
 pub fn corner_cells(cells: &[u64], out: &mut [u64], statuses: &mut [u8]) -> usize
     ensures { Cornered cells.now out.old out.new statuses.old statuses.new result
         × (length out.old < length cells.now

@@ -86,6 +86,7 @@ fn put_around(
 // The corner changes of a batch that toggles the cells `confirmed`, ascending: the cells whose
 // status altered, each once, in the order met, with their new statuses. Returns how many there are. Nothing is
 // written where there is no room for nine times as many as were confirmed.
+// Without room the answer is 0: it may not change what it promises.
 // Cells and statuses are two lists, and not one of pairs: C lends them so.
 pub fn corner_changes(
     cells: &[u64],
@@ -108,6 +109,7 @@ pub fn corner_changes(
         return 0;
     }
     let mut n = 0;
+    // By places: what a cell adds hangs on those before it.
     for i in 0..confirmed.len() {
         n = put_around(cells, confirmed, i, out, statuses, n);
     }

@@ -16,7 +16,7 @@ pub struct Tables<'a> {
     pub pairs: &'a mut [u64],
 }
 
-// Lent to be read.
+// Lent to be read: the same five, since C lends them to such calls as they may not be written.
 #[derive(Clone, Copy)]
 pub struct View<'a> {
     pub cells: &'a [u64],
@@ -42,6 +42,7 @@ impl View<'_> {
 }
 
 impl Tables<'_> {
+    // The same tables, to be read.
     pub fn view(&self) -> View<'_>
         ensures { viewed result ≡ lists_of self.now }
     {

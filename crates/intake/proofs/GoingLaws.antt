@@ -53,9 +53,6 @@ pub record Going (n : ℕ) (t₀ : Tables) (r : Reader) (t : Tables) (w : List �
   pub few : length bytes + left + n ≡ most + length w
   pub whole : (rest : List ℕ) → (ended ≡ true → rest ≡ []) → (a : Result Map FileRefusal) (t'' : Tables) → Feeds r t w rest a t'' → Feeds begun t₀ [] (bytes ++ rest) a t''
 
-pub go_start : (n : ℕ) (t : Tables) (r : Reader) (w : List ℕ) → r ≡ begun → w ≡ [] → n < 2 ^ 63 → Going n t r t w false (most - n)
-go_start n t r w e f h = rw (e, f) (record { bytes = []; few = omega arith; whole = λ rest k a t'' x. x })
-
 module _ {n : ℕ} {t₀ : Tables} {r : Reader} {t : Tables} {left : ℕ} where
   -- more bytes come after those of the window, or it stays as it is
   pub go_fill : (w w' : Window) (b b' : List ℕ) → Within w b → Refilled w w' b b' → Going n t₀ r t (bytes_of w b) (over w.next) left → Going n t₀ r t (bytes_of w' b') (over w'.next) left

@@ -1,8 +1,8 @@
 -- What is listed of an input that was read to its end. Assumes nothing.
-use Prim.Native.Nat.{ℕ, ◌^◌, ◌≤◌, ◌<◌}
+use Prim.Native.Nat.{ℕ, ◌≤◌}
 use mathlib.Core.Path.{◌≡◌, refl, sym, subst, ◌∙◌}
-use mathlib.Core.Bool.{true, false, true≢false}
-use mathlib.Core.List.{List, [], ◌∷◌}
+use mathlib.Core.Bool.{false, true≢false}
+use mathlib.Core.List.{List}
 use lib.Dec.{leb}
 use lib.ListN.{length}
 use Rattle.answers.specs.Told.{counted}
@@ -35,9 +35,6 @@ abbrev pub shown_list : Result ℕ Refusal → Result ℕ ListError
 shown_list (Ok n) = Ok n
 shown_list (Err e) = Err (ListError.Refused e)
 
-pub shown_lacking : (b o : List ℕ) → short (lent_out b o) ≡ true → ShownInput b b o o (Err (ListError.Refused Refusal.ShortTable))
-shown_lacking b o s = record { lacking = λ _. (refl, refl, refl); shown = λ f. absurd (true≢false (sym s ∙ f)) }
-
 pub out_long : (b o : List ℕ) → short (lent_out b o) ≡ false → (need_window ≤ length b) × (need_listing ≤ length o)
 out_long b o s = let h = long_enough (lent_out b o) s in (h.0, h.1.0)
 
@@ -48,9 +45,6 @@ room b o t s own = not_short (lent b t) ((out_long b o s).0, long_enough (needs 
 module _ {b b' : List ℕ} (o : List ℕ) (s : short (lent_out b o) ≡ false) (o' : List ℕ) where
   tells : (a : Result ℕ ListError) → Tells a o o' → ShownInput b b' o o' a
   tells a h = record { lacking = λ g. absurd (true≢false (sym g ∙ s)); shown = λ _. h }
-
-  pub shown_unread : o' ≡ o → ShownInput b b' o o' (Err ListError.Unread)
-  shown_unread h = tells (Err ListError.Unread) h
 
   module _ {t t' : Tables} (own : short (needs t) ≡ false) where
     pub shown_refused : (x : FileRefusal) (k : ℕ) → Taken b b' t t' (Err (InputError.Refused x)) → Printed (leb line_room (length o)) line_room (refused_line (number x.refusal) x.field) 0 k o o' → ShownInput b b' o o' (Ok k)

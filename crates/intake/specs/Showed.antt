@@ -1,5 +1,5 @@
 -- The listing that was written to a writer (RULES 6.3). What the writer takes is not said; this speaks of the lent buffer, whose front is written. Definitions only.
-use Rattle.std.specs.Prelude.{◌≡◌, ℕ, List, Result, Ok, Err}
+use Rattle.std.specs.Prelude.{ℕ, List, Result, Ok, Err}
 use Rattle.intake.specs.Shown.{ShownInput}
 use Rattle.intake.specs.declared.listing.ListError.{ListError}
 use Rattle.intake.specs.declared.output.ShowError.{ShowError}

@@ -41,6 +41,7 @@ pub fn list_input<R: Read>(
     if is_short(&[(buffer.len(), WINDOW), (out.len(), LISTING)]) {
         return Err(ListError::Refused(Refusal::ShortTable));
     }
+    // Written out, as in `mapfile`: there is no heap.
     let mut tables = Tables {
         cells: &mut [0; CELLS],
         points: &mut [0; POINTS],

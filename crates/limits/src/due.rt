@@ -26,6 +26,7 @@ pub struct Due {
 }
 
 impl Due {
+    // No refusal is due.
     pub fn none() -> Due
         ensures { result.word ≡ 0 }
     {

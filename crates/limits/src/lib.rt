@@ -1,4 +1,5 @@
-// Cells as keys, whether one is occupied, and what is refused of a cell size, a radius and a batch.
+// Cells as keys, whether one is occupied; the refusals by name and in their order; what is refused of a cell size, a radius, a batch and lent
+// tables.
 #![tactic(auto)]
 
 pub mod cell;

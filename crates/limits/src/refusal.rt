@@ -19,6 +19,7 @@ pub enum Refusal {
 }
 
 impl Refusal {
+    // As the border and a listing have it.
     pub fn number(self) -> u8
         ensures { result ≡ number self }
     {

@@ -19,7 +19,7 @@ fn quadrant(p: u64, q: u64) -> Corner
     }
 }
 
-// Whether p lies in the visible quadrant of q, which has this status.
+// Whether p lies in the visible quadrant of q, which has this status. A status is a byte here and in `marks`, as C's tables hold it.
 #[tactic(auto, unfolding(model::specs::Corner::sees))]
 pub fn sees(p: u64, q: u64, status: u8) -> bool
     ensures { (b : Bits) → status ≡ number b → result ≡ sees p q b }

@@ -1,4 +1,5 @@
-// The float tests of a cell size and a radius, between centres, with what they find as a number: a key, or 0.
+// The float tests of a cell size and a radius, between centres, with what they find as a number: a key, or 0. It is a number since the
+// tables of C hold blockers so.
 ghost use Rattle.model.specs.Map.{tests};
 ghost use Rattle.looks.specs.Tested.{Tells};
 

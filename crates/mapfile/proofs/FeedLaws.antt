@@ -9,7 +9,7 @@ use Rattle.model.specs.Limits.{max_cells, max_points}
 use Rattle.model.specs.Map as map
 use Rattle.model.specs.MapFile as model
 use Rattle.model.specs.MapFile.{one_field, read_file, taken}
-use Rattle.model.specs.Refusal.{nothing, short}
+use Rattle.model.specs.Refusal.{short}
 use Rattle.held.proofs.LayerLaws.{layer_rooms}
 use Rattle.held.proofs.PadLaws.{padded_room}
 use Rattle.held.specs.Holds.{Holds, Tables, needs}

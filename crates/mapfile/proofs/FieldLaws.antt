@@ -1,5 +1,5 @@
 -- One field, by what was tested on the way to its answer. Assumes nothing.
-use Rattle.std.proofs.Common.{◌≡◌, ℕ, ◌+◌, ◌-◌, ◌/◌, ◌<◌, ◌≤◌, Bool, true, false, cond, eqb, List, [], ◌∷◌, length, get_or, take, drop, sym, refl, ap, ◌∙◌, subst, true≢false, arith, length-drop, length-take-le, drop-drop, eq-eqb, ne_eqb, eqb-true, Result, Ok, Err}
+use Rattle.std.proofs.Common.{◌≡◌, ℕ, ◌+◌, ◌-◌, ◌/◌, ◌<◌, ◌≤◌, false, List, [], ◌∷◌, length, get_or, take, drop, sym, refl, ap, ◌∙◌, subst, true≢false, arith, length-drop, length-take-le, drop-drop, eq-eqb, ne_eqb, eqb-true, Result, Ok, Err}
 use Rattle.mapfile.proofs.ByteLaws.{field_head, head_fits, head_flags, head_placed, head_short, head_within, headed}
 use Rattle.mapfile.specs.Fields.{HeadRead, due_at, expected_of, length_at}
 use Rattle.mapfile.specs.declared.head.Expected.{Expected}
@@ -79,15 +79,6 @@ never_end b h q = true≢false (sym (head_placed model.end b q.0))
 
 -- ---- the answers
 module _ (r : Reader) (b : List ℕ) (t : Tables) where
-  pub field_lacking : short (needs t) ≡ true → FieldRead r b t t (refused_as Refusal.ShortTable r)
-  field_lacking s =
-      record {
-        lacking = λ k. (refl, refl);
-        reads = λ k. absurd (true≢false (sym s ∙ k));
-        refused = λ x e. refl;
-        within = λ r' u e. absurd (no_more e);
-      }
-
   module _ (s : short (needs t) ≡ false) where
     -- the file stops
     stops : (e : Expected) (R : model.Reader) → HoldsReader r t R → R.expected ≡ expected_of e → Says (stopped_as e r) b t (stopped R (expected_of e)) × Left (stopped_as e r) t t

@@ -1,5 +1,5 @@
 -- A file is read field by field: the loop's invariant, its turns and its ends. Assumes nothing.
-use Rattle.std.proofs.Common.{◌≡◌, ℕ, suc, ◌+◌, ◌^◌, ◌<◌, ◌≤◌, false, List, length, drop, sym, refl, ap, ◌∙◌, subst, zero-le, arith, length-drop, drop-drop, Result, Ok, Err}
+use Rattle.std.proofs.Common.{◌≡◌, ℕ, ◌+◌, ◌^◌, ◌<◌, ◌≤◌, false, List, length, drop, sym, refl, ap, ◌∙◌, subst, zero-le, arith, length-drop, drop-drop, Result, Ok, Err}
 use Rattle.mapfile.proofs.FeedLaws.{left_long}
 use Rattle.mapfile.proofs.WindowLaws.{first_done, first_more, first_refused, read_all}
 use Rattle.mapfile.specs.Feeds.{EndsAs, last}

@@ -1,5 +1,5 @@
 -- The judgement of a field's head, test by test. Assumes nothing.
-use Rattle.std.proofs.Common.{◌≡◌, ℕ, ◌+◌, ◌-◌, ◌*◌, ◌/◌, ◌%◌, ◌<◌, ◌≤◌, Bool, true, false, cond, ◌&&◌, eqb, ltb, List, length, get_or, take, drop, ◌⊎◌, sym, refl, ⊎_elim, arith, length-take-le, le-ltb, lt-ltb, eq-eqb, ne_eqb}
+use Rattle.std.proofs.Common.{◌≡◌, ℕ, ◌/◌, ◌<◌, ◌≤◌, Bool, true, false, cond, ◌&&◌, eqb, ltb, List, length, get_or, take, drop, ◌⊎◌, sym, refl, ⊎_elim, length-take-le, le-ltb, lt-ltb, eq-eqb, ne_eqb}
 use Rattle.model.specs.MapFile.{bad_flag, due, entry_bytes, fitting, placed}
 use Rattle.model.specs.MapFile as model
 use Rattle.model.specs.Refusal.{first_due, is_due}

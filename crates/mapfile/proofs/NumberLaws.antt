@@ -27,9 +27,6 @@ writing_none v t h =
     let e : length v - 0 ≡ length v = omega arith in
     record { room = omega arith; within = zero-le; before = zero-le; long = refl; rest = rw e refl; is = refl }
 
-pub lacks_room_lem : (v : List ℕ) (t : List ℤ) → length t / 3 < length v / 9 → Numbers v 0 t t
-lacks_room_lem v t h = record { done = λ r. absurd (omega arith); lacking = λ r. (refl, refl) }
-
 module _ (v : List ℕ) (t t' : List ℤ) (at n : ℕ) (s : Writing v t t' at n) where
   -- the entry at the place `at`, then those after it
   entry : at + 8 < length v → drop n (wanted v) ≡ int32 (take 4 (drop at v)) ∷ int32 (take 4 (drop (at + 4) v)) ∷ pos (get_or v (at + 8) 0) ∷ numbers_of ((length v - (at + 9)) / 9) (drop (at + 9) v)

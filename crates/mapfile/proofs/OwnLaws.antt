@@ -1,5 +1,5 @@
 -- Tables that are as long as their needs: those that a call has of its own. Assumes nothing.
-use Rattle.std.proofs.Common.{◌≡◌, ℕ, ◌≤◌, false, List, [], ◌∷◌, ◌++◌, length, drop, sym, refl, ap, ◌∙◌, arith, length-append, length-drop, replicate, le-ltb}
+use Rattle.std.proofs.Common.{◌≡◌, ℕ, ◌≤◌, false, List, [], ◌∷◌, length, drop, refl, ap, ◌∙◌, arith, length-drop, replicate, le-ltb}
 use Rattle.std.proofs.lemmas.List.{length-replicate}
 use Rattle.held.specs.Pairs.{pair_places}
 use Rattle.model.specs.Limits.{max_cells, max_points}

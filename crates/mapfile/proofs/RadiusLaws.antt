@@ -1,5 +1,5 @@
 -- Field 02: the radius, with which the map is opened. Assumes nothing.
-use Rattle.std.proofs.Common.{◌≡◌, ℕ, ◌≤◌, Bool, true, false, cond, List, [], length, sym, refl, ap, ◌∙◌, subst, arith, Ok, Err}
+use Rattle.std.proofs.Common.{◌≡◌, ℕ, Bool, true, false, cond, List, [], sym, refl, ap, ◌∙◌, subst, arith, Ok, Err}
 use lib.Ieee.{Float}
 use Rattle.mapfile.specs.declared.head.Expected.{Expected}
 use Rattle.model.specs.Map as map

@@ -1,5 +1,5 @@
 -- A file that was read into tables of the call's own: its map is handed over to those that are lent; and what the call's contract says. Assumes nothing.
-use Rattle.std.proofs.Common.{◌≡◌, ℕ, zero, suc, ◌+◌, ◌<◌, ◌≤◌, Bool, true, false, List, [], ◌++◌, length, get_or, drop, sym, refl, ap, ◌∙◌, subst, true≢false, append-nil, arith, length-append, length-drop, drop_at, Ok, Err}
+use Rattle.std.proofs.Common.{◌≡◌, ℕ, ◌+◌, ◌<◌, ◌≤◌, Bool, true, false, List, [], ◌++◌, length, get_or, drop, sym, refl, ap, ◌∙◌, subst, true≢false, append-nil, arith, length-append, length-drop, drop_at, Ok}
 use lib.ListN.{get_or-append}
 use lib.Seq.{drop-length}
 use Rattle.held.proofs.LayerLaws.{codes_count, statuses_length}
@@ -11,7 +11,6 @@ use Rattle.held.specs.Codes.{codes}
 use Rattle.held.specs.Layers.{HoldsLayer, blocks_of, edge_at, statuses_of}
 use Rattle.held.specs.Pairs.{Pairs, PairsBy, pair_place, pair_places}
 use Rattle.held.specs.declared.map.Map.{Map}
-use Rattle.limits.specs.Floor as floor
 use Rattle.model.specs.Layer.{Layer}
 use Rattle.model.specs.Limits.{max_cells, max_points}
 use Rattle.model.specs.Map as model
@@ -22,11 +21,9 @@ use Rattle.table.specs.Copied.{Copied}
 use Rattle.table.specs.Tables.{pad}
 use Rattle.mapfile.proofs.OwnLaws.{Whole}
 use Rattle.mapfile.proofs.ReadingLaws.{read_numbered}
-use Rattle.limits.specs.Refusals.{number}
 use Rattle.mapfile.specs.Feeds.{EndsAs}
-use Rattle.mapfile.specs.Files.{FileRead, OpensAs, refused_at}
+use Rattle.mapfile.specs.Files.{FileRead, OpensAs}
 use Rattle.mapfile.specs.Told.{opened_told}
-use Rattle.mapfile.specs.declared.state.FileRefusal.{FileRefusal}
 use Rattle.mapfile.specs.declared.file.Opened.{Opened}
 
 -- ---- a table k of n places, written to the front of a longer one
@@ -99,15 +96,9 @@ module _ (own t t' : Tables) (w : Whole own) (rooms : short (needs t) ≡ false)
 
 -- ---- the call
 module _ (b : List ℕ) (t : Tables) where
-  pub read_lacking : short (needs t) ≡ true → FileRead b t t (refused_at 9 0)
-  read_lacking h = record { lacking = λ k. (refl, refl); reads = λ k. absurd (true≢false (sym h ∙ k)) }
-
   module _ (rooms : short (needs t) ≡ false) where
     read_as : (t' : Tables) (r : Opened) (s : Reading) → read_file b ≡ s → OpensAs s t t' r → FileRead b t t' r
     read_as t' r s e h = record { lacking = λ k. absurd (true≢false (sym k ∙ rooms)); reads = λ k. subst (λ (z : Reading). OpensAs z t t' r) (sym e) h }
-
-    pub read_refuses : (own : Tables) (x : FileRefusal) → EndsAs (Err x) own (read_file b) → FileRead b t t (opened_told (Err x))
-    read_refuses own x k = read_as t (opened_told (Err x)) (refused (number x.refusal) x.field) k (refl, refl)
 
     pub read_opens : (own t' : Tables) (m : Map) → EndsAs (Ok m) own (read_file b) → ((M : model.Map) → Holds m own M → Holds m t' M) → Behind t t' → FileRead b t t' (opened_told (Ok m))
     read_opens own t' m k over v = read_as t' (opened_told (Ok m)) (done k.0) k.1 (refl, refl, over k.0 k.2, v)

@@ -1,5 +1,5 @@
 -- A field's value taken: what each answer needs; the cell size; FF. Assumes nothing.
-use Rattle.std.proofs.Common.{◌≡◌, ℕ, zero, suc, ◌+◌, ◌%◌, ◌^◌, ◌<◌, ◌≤◌, Bool, true, false, cond, List, length, take, drop, sym, refl, ap, ◌∙◌, subst, arith, Result, Ok, Err}
+use Rattle.std.proofs.Common.{◌≡◌, ℕ, suc, ◌+◌, ◌%◌, ◌^◌, ◌<◌, Bool, true, false, cond, List, drop, sym, refl, ap, ◌∙◌, subst, arith, Result, Ok, Err}
 use lib.Ieee.{Float}
 use Rattle.mapfile.specs.Fields.{expected_of}
 use Rattle.mapfile.specs.declared.head.Expected.{Expected}

@@ -1,7 +1,7 @@
 -- Bytes as numbers: eight and four of them, and the flags of a batch. Assumes nothing.
-use Rattle.std.proofs.Common.{◌≡◌, ℕ, zero, suc, ◌+◌, ◌-◌, ◌*◌, ◌/◌, ◌^◌, ◌<◌, ◌≤◌, Bool, cond, ◌||◌, ltb, List, [], ◌∷◌, length, get_or, take, drop, ℤ, pos, negsuc, sym, refl, ap, ◌∙◌, ⊎_elim, arith, get_or-drop, drop-cons, w8, w32, w64, Fits, SFits, to_z, of_z, le-ltb, lt-ltb}
+use Rattle.std.proofs.Common.{◌≡◌, ℕ, zero, suc, ◌+◌, ◌-◌, ◌*◌, ◌/◌, ◌^◌, ◌<◌, ◌≤◌, cond, ltb, List, [], ◌∷◌, length, get_or, take, drop, ℤ, pos, negsuc, sym, refl, ap, ◌∙◌, ⊎_elim, arith, get_or-drop, drop-cons, w8, w32, w64, Fits, SFits, to_z, of_z, le-ltb, lt-ltb}
 use lib.Seq.{get_or-take}
-use mir.ValLaws.{of_z-to_z, to_z-of_z, to_z_pos}
+use mir.ValLaws.{of_z-to_z, to_z-of_z}
 use Rattle.std.specs.Int.{from_be_bytes}
 use Rattle.std.specs.Simd.{first_chunks}
 use Rattle.ieee.proofs.Tools.{lt_or_ge}

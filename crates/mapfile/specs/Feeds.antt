@@ -1,5 +1,5 @@
 -- Between functions: runs of calls that read a file through windows, as the contracts alone have them: the fold that a program with a fixed buffer runs. Definitions only.
-use Rattle.std.specs.Prelude.{◌≡◌, ℕ, List, [], ◌++◌, drop, Result, Ok, Err}
+use Rattle.std.specs.Prelude.{◌≡◌, ℕ, List, ◌++◌, drop, Result, Ok, Err}
 use Rattle.mapfile.specs.Windows.{Wide}
 use Rattle.model.specs.Map as map
 use Rattle.model.specs.MapFile as model

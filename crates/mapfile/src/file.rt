@@ -53,6 +53,7 @@ fn read_fields(bytes: &[u8], tables: &mut Tables) -> Result<Map, FileRefusal>
 {
     let mut reader = begin();
     let mut rest = bytes;
+    // No `for`: each field tells how far the next one is.
     loop {
         match one_field(reader, rest, tables)? {
             Reading::More(next, used) => {
@@ -75,6 +76,7 @@ pub fn read_file(bytes: &[u8], tables: &mut Tables) -> Result<Map, FileRefusal>
             field: 0,
         });
     }
+    // Written out here, in `report` and in `intake`: no function can lend what it owns itself, and there is no heap.
     let mut own = Tables {
         cells: &mut [0; CELLS],
         points: &mut [0; POINTS],

@@ -22,7 +22,7 @@ pub enum Expected {
     End,
 }
 
-// The field's tag, and how many bytes its value has.
+// The field's tag, and how many bytes its value has. The tag is a byte and no enum: a file may have any, and what is due is told of any.
 #[derive(Clone, Copy)]
 pub(crate) struct Head {
     pub tag: u8,

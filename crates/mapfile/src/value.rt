@@ -23,6 +23,7 @@ pub(crate) fn bad_flags(value: &[u8]) -> bool
 }
 
 // The entries as the library takes them: x, y, and 0 or 1, where there is room for them. Returns how many numbers there are.
+// Three numbers for an entry, and not a struct: C's batches are so.
 pub(crate) fn numbers_of(value: &[u8], out: &mut [i64]) -> usize
     ensures { Numbers value.now result out.old out.new }
 {

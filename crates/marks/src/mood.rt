@@ -9,7 +9,7 @@ use corner::bits::{Corner, CornerStatus};
 pub(crate) const MARKS: u64 = 1048576;
 
 // Its status; one more than its place among the old points, or 0; one more than the number of the first mark that
-// queued it, or 0. 0 stays the number for none: all three are kept in one word of tables of fixed length.
+// queued it, or 0. 0 stays the number for none: `Mood::of_word` promises it, and all three are kept in one word.
 #[derive(Clone, Copy)]
 pub struct Mood {
     pub status: u8,

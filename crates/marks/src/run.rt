@@ -36,7 +36,7 @@ fn begin_at(points: Statuses, k: u64) -> Mood
     }
 }
 
-// .. of all candidates.
+// What is known of all candidates before the marks.
 pub(crate) fn begin(points: Statuses, candidates: &[u64], moods: &mut [u64])
     requires { (length points.cells.now ≤ length points.statuses.now) × (length points.cells.now ≤ max_points) × (length candidates.now ≡ length moods.old) }
     ensures { Begins points.entry.cells.now points.entry.statuses.now candidates.now moods.new }

@@ -1,10 +1,10 @@
 -- A number put from its last digit to its first. Assumes nothing.
-use Rattle.std.proofs.Common.{ℕ, ◌+◌, ◌/◌, ◌%◌, ◌^◌, ◌≤◌, ◌<◌, ◌≡◌, List, [], ◌∷◌, ◌++◌, length, set, refl, sym, ap, ◌∙◌, ⊎_elim, append_assoc, append-nil, arith, length-append, length-set}
+use Rattle.std.proofs.Common.{ℕ, ◌+◌, ◌/◌, ◌%◌, ◌^◌, ◌≤◌, ◌<◌, ◌≡◌, List, [], ◌∷◌, ◌++◌, length, set, refl, ap, ◌∙◌, ⊎_elim, append_assoc, arith, length-append, length-set}
 use Rattle.ieee.proofs.Tools.{lt_or_ge}
 use Rattle.model.specs.Listing.{decimal}
 use Rattle.print.specs.Printed.{Put}
 use Rattle.print.proofs.DecimalLaws.{decimal_more, decimal_one, length_most}
-use Rattle.print.proofs.PutLaws.{put_before, put_none}
+use Rattle.print.proofs.PutLaws.{put_before}
 
 -- the last digit, and what comes before it: the digits of a tenth, or nothing
 record Last (n : ℕ) : Type 0 where
@@ -29,10 +29,6 @@ pub record Numbering (n at end : ℕ) (t t' : List ℕ) (i rest : ℕ) : Type 0 
   pub room : end ≤ length t
   pub long : length t' ≡ length t
   pub is : Put tail i end t t'
-
-pub numbering_none : (n at end : ℕ) (t : List ℕ) → end ≡ at + length (decimal n) → end ≤ length t → Numbering n at end t t end n
-numbering_none n at end t e h =
-    record { front = decimal n; tail = []; all = sym (append-nil (decimal n)); place = e; left = λ k. refl; room = h; long = refl; is = put_none end t }
 
 module _ {n at end i rest : ℕ} {t t' : List ℕ} (w : Numbering n at end t t' i rest) where
   pub numbering_more : (j : ℕ) → i ≡ j + 1 → at ≤ j → j < length t → Numbering n at end t (set t' j (48 + rest % 10)) j (rest / 10)

@@ -1,23 +1,18 @@
 -- With room a text is printed, without none is. Assumes nothing.
-use Prim.Native.Nat.{ℕ, ◌+◌, ◌-◌, ◌*◌, ◌/◌, ◌≤◌, ◌<◌}
-use native.Mathlib.Omega.{arith}
+use Prim.Native.Nat.{ℕ, ◌+◌, ◌*◌, ◌≤◌}
 use mathlib.Core.Path.{◌≡◌, refl}
 use mathlib.Core.Bool.{Bool, true, false, not, true≢false, ◌&&◌}
 use mathlib.Core.List.{List}
-use mathlib.Core.Logic.{⊎_elim}
-use lib.Dec.{leb, ltb}
+use lib.Dec.{leb}
 use lib.ListN.{length}
-use borrow.Author.Tests.{lt-ltb, le-ltb, lt-leb, le-leb, leb-true}
-use Rattle.ieee.proofs.Tools.{lt_or_ge, not_both}
+use borrow.Author.Tests.{le-leb, leb-true}
+use Rattle.ieee.proofs.Tools.{not_both}
 use Rattle.print.specs.Printed.{Put, Printed, lines_fit}
 use Rattle.model.specs.Limits.{line_room}
 
 module _ {roomy : Bool} {room at r : ℕ} {s t t' : List ℕ} where
   pub printed_done : roomy ≡ true → Put s at r t t' → length s ≤ room → Printed roomy room s at r t t'
   printed_done e p h = record { done = λ q. (p, h); lacking = λ q. not_both e q }
-
-  pub printed_not : roomy ≡ false → r ≡ at → t' ≡ t → Printed roomy room s at r t t'
-  printed_not e p h = record { done = λ q. not_both q e; lacking = λ q. (p, h) }
 
 -- ---- room for lines
 none_fails : (x y z : Bool) → not (x && y && z) ≡ false → (x ≡ true) × (y ≡ true) × (z ≡ true)

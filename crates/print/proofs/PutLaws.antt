@@ -1,18 +1,15 @@
 -- Text put into a list: one entry, one text after another, one entry before what is put. Assumes nothing.
-use Prim.Native.Nat.{ℕ, suc, ◌+◌, ◌≤◌, ◌<◌}
+use Prim.Native.Nat.{ℕ, ◌+◌, ◌≤◌, ◌<◌}
 use native.Mathlib.Numerals.{add-one}
 use native.Mathlib.Omega.{arith}
 use mathlib.Core.Path.{◌≡◌, sym, ap, ◌∙◌}
 use mathlib.Core.List.{List, [], ◌∷◌, ◌++◌, append_assoc, append-nil}
 use lib.ListN.{drop, length, length-append, length-drop, length-take, set, take, take-append-drop}
-use lib.Seq.{append_snoc, drop_at, drop-drop, length-take-le, set-append_left, set_split, take_at, take-set-lt, take-suc-set}
+use lib.Seq.{drop_at, drop-drop, length-take-le, set-append_left, take_at, take-set-lt, take-suc-set}
 use Rattle.print.specs.Printed.{Put}
 
 pub put_none : (a : ℕ) (t : List ℕ) → Put [] a a t t
 put_none a t = record { end = omega arith; is = rw append-nil (sym (take-append-drop a t)) }
-
-pub put_one : (x a : ℕ) (t : List ℕ) → a < length t → Put (x ∷ []) a (a + 1) t (set t a x)
-put_one x a t h = record { end = omega arith; is = set_split t a x h ∙ rw (add-one a) (sym (append_snoc (take a t) x (drop (suc a) t))) }
 
 -- what is put keeps the length
 pub put_long : {s t t' : List ℕ} {a b : ℕ} → Put s a b t t' → b ≤ length t → length t' ≡ length t

@@ -40,10 +40,6 @@ module _ {B : Type 0} (line : ℕ → B → ℕ → List ℕ) where
       record { inside = omega arith; wide_b = f.0; wide_c = f.1; room = f.2; long = refl; few = omega arith; is = put_none at t }
 
   module _ {a : List ℕ} {b : List B} {c t t' : List ℕ} {at end i : ℕ} (w : Writing a b c t t' at end i) where
-    -- there is room for one more line
-    pub writing_room : i < length a → end + line_room ≤ length t'
-    writing_room h = omega arith
-
     pub writing_more : {t'' : List ℕ} {r : ℕ} (d : B) → i < length a → Put (line (get_or a i 0) (get_or b i d) (get_or c i 0)) end r t' t'' → r ≤ end + line_room
         → Writing a b c t t'' at r (i + 1)
     writing_more d h p k =

@@ -36,7 +36,7 @@ impl Printer<'_> {
         self.coordinate(key % COLUMN);
     }
 
-    // `x,y`, or `-` where there is none.
+    // `x,y`, or `-` where there is none: a blocker's number is that of C's tables, 0 for none.
     pub fn blocker(&mut self, code: u64)
         requires { self.old.at + 23 ≤ length self.old.out.now }
         ensures { Wrote (blocker_text (block_of code)) 23 self.old self.new }

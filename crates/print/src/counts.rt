@@ -17,7 +17,7 @@ pub struct Counts {
     pub blocks: u64,
 }
 
-// Returns how many bytes the line has. Nothing is written where there is not room for 256.
+// Returns how many bytes the line has. Nothing is written where there is not room for 256, and then it is 0, as it promises.
 pub fn put_counts(out: &mut [u8], counts: Counts) -> usize
     ensures { Printed (leb first_room (length out.old)) first_room
         (counts_line counts.cells counts.corners counts.points counts.edges counts.open counts.blocks)

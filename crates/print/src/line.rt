@@ -60,6 +60,7 @@ pub(crate) fn put_lines<T: Copy, L: Line<T>>(
         return at;
     }
     let mut printer = Printer { out, at };
+    // By places: three columns side by side, as C lends them.
     for i in 0..first.len() {
         L::put(&mut printer, first[i], second[i], third[i]);
     }

@@ -10,7 +10,7 @@ pub(crate) struct Printer<'a> {
     pub at: usize,
 }
 
-// How many digits n has.
+// How many digits n has. A `while`: it counts digits and no places.
 fn places(n: u64) -> usize
     ensures { result ≡ length (decimal n) }
 {
@@ -24,6 +24,7 @@ fn places(n: u64) -> usize
 }
 
 impl Printer<'_> {
+    // One byte.
     pub fn byte(&mut self, b: u8)
         requires { self.old.at < length self.old.out.now }
         ensures { Wrote (b ∷ []) 1 self.old self.new }
@@ -32,6 +33,7 @@ impl Printer<'_> {
         self.at += 1;
     }
 
+    // Some bytes, where std's `fmt` would prove nothing of what it writes.
     pub fn text(&mut self, text: &[u8])
         requires { self.old.at + length text.now ≤ length self.old.out.now }
         ensures { Wrote text.now (length text.now) self.old self.new }

@@ -7,7 +7,8 @@ ghost use Rattle.model.specs.Limits.{line_room};
 use crate::printer::Printer;
 use sizes::LINE;
 
-// Returns how many bytes the line has. Nothing is written where there is not room for 80. It promises this of any number, not only of a refusal's.
+// Returns how many bytes the line has. Nothing is written where there is not room for 80, and then it is 0, as it promises, and it
+// promises this of any number, not only of a refusal's.
 pub fn put_refusal(out: &mut [u8], number: u8, field: u64) -> usize
     ensures { Printed (leb line_room (length out.old)) line_room (refused_line number field) 0 result out.old out.new }
 {

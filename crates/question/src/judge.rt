@@ -15,7 +15,7 @@ fn bad_number(z: f64) -> bool
     !(-1099511627776.0 <= z && z <= 1099511627776.0)
 }
 
-// Minus zero passes.
+// Minus zero passes. A function of its own: each is one line.
 fn bad_length(z: f64) -> bool
     ensures { result ≡ bad_length z }
 {

@@ -26,7 +26,7 @@ pub enum Question {
 }
 
 // What a test finds: a cell's key, or none, and then the key is 0. No Option: whether something is found is often not to be
-// predicted, and a struct of numbers needs no branch (measured, docs/SPEED.md).
+// predicted, and a struct of numbers needs no branch (measured, docs/DECISIONS.md).
 #[derive(Clone, Copy)]
 pub struct Found {
     pub some: bool,

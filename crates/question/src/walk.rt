@@ -161,6 +161,7 @@ pub(crate) fn first_taken<S: Taking>(cells: &[u64], columns: Bounds, shape: S) -
     ensures { First (taken columns (S.shape shape)) cells.now result }
 {
     let mut i = begin(cells, columns, shape.low());
+    // A `while`: it goes from column to column.
     while i < cells.len() {
         let k = cells[i];
         let x = k / COLUMN;

@@ -19,7 +19,7 @@ fn digit(b: u8) -> u64
     }
 }
 
-// The pattern whose sixteen digits begin at `from`; 0 where the line ends before.
+// The pattern whose sixteen digits begin at `from`; 0 where the line ends before, as it promises.
 #[tactic(auto, unfolding(crate::specs::Patterns::pattern_at, crate::specs::Patterns::hex))]
 pub fn pattern_at(line: &[u8], from: usize) -> u64
     ensures { result ≡ pattern_at line.now from }

@@ -1,12 +1,12 @@
 -- What is listed of a file that was read to its end. Assumes nothing.
-use Prim.Native.Nat.{ℕ, ◌≤◌, ◌<◌}
+use Prim.Native.Nat.{ℕ, ◌≤◌}
 use native.Mathlib.Omega.{arith}
 use mathlib.Core.Path.{◌≡◌, refl, ◌∙◌}
 use mathlib.Core.List.{List, [], ◌∷◌, ◌++◌}
 use lib.Dec.{leb}
 use lib.ListN.{drop, length}
 use borrow.Author.Tests.{le-leb}
-use Rattle.answers.specs.Asking.{Listing, refuse_map, refused_with}
+use Rattle.answers.specs.Asking.{Listing, refuse_map}
 use Rattle.answers.specs.declared.judge.Count.{Count}
 use Rattle.model.specs.Listing.{listed, listing, refused_line}
 use Rattle.model.specs.Map as model
@@ -24,9 +24,6 @@ use Rattle.mapfile.proofs.ReadingLaws.{read_accepted}
 
 -- ---- what is written
 module _ (b o : List ℕ) where
-  pub list_short : length o < need_listing → Listed b o o (refused_with 9)
-  list_short h = record { short = λ k. (refl, refl); done = λ k. absurd (omega arith) }
-
   module _ (room : need_listing ≤ length o) (o' : List ℕ) where
     list_done : (r : Count) (s : Reading) → read_file b ≡ s → r.refusal ≡ 0 → r.count ≡ length (listed s) → o' ≡ listed s ++ drop r.count o → Listed b o o' r
     unfolding listing

@@ -17,6 +17,7 @@ pub fn list_file(bytes: &[u8], out: &mut [u8]) -> Result<usize, Refusal>
     if out.len() < LISTING {
         return Err(Refusal::ShortTable);
     }
+    // Written out, as in `mapfile`: there is no heap.
     let mut tables = Tables {
         cells: &mut [0; CELLS],
         points: &mut [0; POINTS],

@@ -18,7 +18,8 @@ impl SearchF64 {
         SearchF64 { value: None }
     }
 
-    // What `check_min` stores.
+    // What `check_min` stores. Two functions for the least and the greatest, as in the Rust: each is one line.
+    // (`check_min` and `check_max` are these in place.)
     pub fn least(self, other: f64) -> Self
         ensures { result ≡ kept (check_min (held self) other) }
     {

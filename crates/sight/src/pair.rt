@@ -44,7 +44,8 @@ fn is_sooner(a: u64, b: u64) -> bool
     a != 0 && (b == 0 || a < b)
 }
 
-// The pair of two old points as the old table has it, 0 where there is none.
+// The pair of two old points as the old table has it, 0 where there is none. Here and below pairs are numbers, as C's table holds them: 0, 1
+// for an open one, or a key.
 fn old_pair(old: &[u64], a: u64, b: u64) -> u64
     ensures { (P : PairsBy) (w v : Standing) → Pairs P old.now → a ≡ w.old → b ≡ v.old → a ≤ max_points → b ≤ max_points
         → result ≡ pair_code (old_pair P w v) }

@@ -23,7 +23,8 @@ fn put_at(t: &mut [u64], at: usize, k: u64)
     t[at] = k;
 }
 
-// Puts k into the first n keys, if it is not there and there is room. Returns how many keys there are then.
+// Puts k into the first n keys, if it is not there and there is room. Returns how many keys there are then. The used keys and their count
+// stay apart, here and below: C lends a table longer than what is used, and a map's struct has the count.
 pub fn insert(t: &mut [u64], n: usize, k: u64) -> usize
     ensures { Changed (added (length t.old) k) t.old n t.new result }
 {

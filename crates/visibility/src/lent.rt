@@ -6,7 +6,8 @@ ghost use Rattle.visibility.specs.Lent.{over};
 
 use held::tables::View;
 
-// The four tables of a layer, lent to be changed: the points with their statuses and blockers, and the pairs.
+// The four tables of a layer, lent to be changed: the points with their statuses and blockers, and the pairs. It is no `Tables`, since C lends
+// the cells of a change of the radius to be read.
 #[derive(Drop)]
 pub struct Layer<'a> {
     pub points: &'a mut [u64],

@@ -5,7 +5,7 @@ use native.Mathlib.Omega.{arith}
 use mathlib.Core.Path.{◌≡◌, refl, sym, ap, ◌∙◌}
 use mathlib.Core.Bool.{Bool, true, false, not, true≢false}
 use mathlib.Core.Logic.{◌⊎◌, inl, inr, ⊎_elim}
-use mathlib.Core.List.{List, [], ◌++◌, append-nil}
+use mathlib.Core.List.{List, ◌++◌}
 use lib.ListN.{length, length-drop, take, drop}
 use denote.Enum.Bare.{sameb}
 use lib.Seq.{take-add, take-paste}
@@ -15,18 +15,6 @@ use Rattle.window.specs.declared.input.Window.{Window}
 use Rattle.window.specs.Refilled.{Filled, Refilled, Within, bytes_of, over}
 use Rattle.std.specs.List.{copy_within}
 use Rattle.model.specs.Limits.{need_window}
-
--- the window as it was
-pub unchanged : (w : Window) (b : List ℕ) → Within w b → (over w.next ≡ true) ⊎ (need_window ≤ w.end - w.from) → Refilled w w b b
-unchanged w b h e =
-    record {
-      inside = h;
-      long = refl;
-      kept = λ _. ([], sym (append-nil (bytes_of w b)));
-      enough = λ _ _. e;
-      stays = λ _ _. (refl, refl);
-      outside = λ out. absurd (out h);
-    }
 
 -- a window that has no place in the buffer
 pub refused : (w r : Window) (b : List ℕ) → (Within w b → ⊥) → r ≡ record { from = 0; end = 0; next = Next.Failed } → Refilled w r b b

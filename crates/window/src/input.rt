@@ -35,6 +35,7 @@ fn fill<R: Read>(input: &mut R, buffer: &mut [u8], have: usize) -> Window
     ensures { Filled have result buffer.old buffer.new }
 {
     let mut end = have;
+    // A `while`: each read tells how far it came.
     while end < buffer.len() {
         match input.read(&mut buffer[end..]) {
             Ok(0) => return Window::up_to(end, Next::Ended),

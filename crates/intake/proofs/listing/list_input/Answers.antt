@@ -1,5 +1,5 @@
 -- `listing::list_input`: a refused file's line, or the listing of the map that was read (ShownLaws.antt).
-use Rattle.std.proofs.Common.{Ok, Err, refl, sym}
+use Rattle.std.proofs.Common.{Ok, Err, sym}
 use Rattle.held.specs.Lent.{viewed}
 use Rattle.mapfile.proofs.ErrLaws.{err_is}
 use Rattle.mapfile.proofs.OwnLaws.{whole_long, zeros, zeros_whole}

@@ -1,7 +1,6 @@
 -- `field::take_field`: by its head, and by what is expected (FieldLaws.antt).
 use Rattle.std.proofs.Common.{◌≡◌, ap, sym, refl, eqb-true}
 use borrow.Author.Tests.{eqb-false}
-use Rattle.held.specs.Lent.{lists_of}
 use Rattle.mapfile.specs.Fields.{HeadRead, expected_of}
 use Rattle.model.specs.MapFile as model
 use Rattle.model.specs.MapFile.{take_batch, take_end, take_radius, take_size}
