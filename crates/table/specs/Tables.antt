@@ -26,6 +26,11 @@ pub record Table (t : List ℕ) (n : ℕ) : Type 0 where
   pub asc : AscL 0 (take n t)
   pub rest : drop n t ≡ replicate (length t - n) 0
 
+-- every entry one place up: the first is there twice, the last falls off
+abbrev pub shift_up : List ℕ → List ℕ
+shift_up [] = []
+shift_up (x ∷ l) = x ∷ take (length l) (x ∷ l)
+
 -- every entry one place down: the first is lost, and the last is zero
 abbrev pub shift_down : List ℕ → List ℕ
 shift_down [] = []

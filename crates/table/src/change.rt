@@ -1,9 +1,18 @@
 // Keys put into a table and taken out. The used part comes first, and the unused rest is zero.
 ghost use Rattle.std.specs.Prelude.{◌≡◌, ◌<◌, length};
 ghost use Rattle.model.specs.Maps.{cut};
-ghost use Rattle.table.specs.Tables.{Changed, added, put_at, shift_down};
+ghost use Rattle.table.specs.Tables.{Changed, added, put_at, shift_down, shift_up};
 
 use crate::place::find;
+
+// Every entry one place up: the last is lost, the first stays.
+fn shift_up(t: &mut [u64])
+    ensures { t.new ≡ shift_up t.old }
+{
+    if 1 < t.len() {
+        t.copy_within(..t.len() - 1, 1);
+    }
+}
 
 // Every entry one place down: the first is lost, and the last is zero.
 fn shift_down(t: &mut [u64])
@@ -14,12 +23,12 @@ fn shift_down(t: &mut [u64])
     t[t.len() - 1] = 0;
 }
 
-// Puts k in at a place. What was there and after it moves one place up: the last is lost.
+// Puts k in at a place. Only the stretch from there onward is lent for shifting.
 fn put_at(t: &mut [u64], at: usize, k: u64)
     requires { at < length t.old }
     ensures { t.new ≡ put_at at k t.old }
 {
-    t.copy_within(at..t.len() - 1, at + 1);
+    shift_up(&mut t[at..]);
     t[at] = k;
 }
 
