@@ -4,7 +4,7 @@ ghost use Rattle.answers.specs.Asks.{Asks, AsksNumbered};
 use crate::judge::refuse;
 use held::map::Map;
 use limits::cell::Cell;
-use limits::due::Due;
+use limits::dues::Due;
 use limits::lent::is_short;
 use limits::refusal::Refusal;
 use question::ask::place_of;

@@ -5,7 +5,7 @@ ghost use Rattle.answers.specs.Told.{counted, said};
 use crate::judge::refuse;
 use held::map::Map;
 use limits::cell::Cell;
-use limits::due::Due;
+use limits::dues::Due;
 use limits::lent::is_short;
 use limits::refusal::Refusal;
 use sizes::CELLS;

@@ -8,7 +8,7 @@ ghost use Rattle.answers.specs.Asking.{on_map};
 
 use held::map::Map;
 use limits::cell::Cell;
-use limits::due::Due;
+use limits::dues::Due;
 use limits::judge::bad_size;
 use limits::radius::bad_radius;
 use limits::refusal::Refusal;

@@ -9,7 +9,7 @@ ghost use Rattle.answers.specs.Walks.{AllListed, OpenListed, OpenRowListed, RowF
 
 use crate::judge::refuse;
 use held::map::Map;
-use limits::due::Due;
+use limits::dues::Due;
 use limits::lent::is_short;
 use limits::refusal::Refusal;
 use sizes::{LISTED, PAIRS, POINTS};

@@ -7,7 +7,7 @@ ghost use Rattle.answers.specs.Walks.{FreeListed};
 use crate::judge::refuse;
 use crate::keep::keep;
 use held::map::Map;
-use limits::due::Due;
+use limits::dues::Due;
 use limits::lent::is_short;
 use limits::refusal::Refusal;
 use sizes::POINTS;

@@ -112,6 +112,9 @@ pub fn commit(cells: &mut [u64], n: usize, changes: Changes) -> usize
         → (cells.new ≡ pad (length cells.old) (cells_after b (take n cells.old)))
         × (result ≡ length (cells_after b (take n cells.old))) }
 {
+    if changes.full.len() < changes.cells.len() {
+        return n;
+    }
     let used = write(cells, n, changes, false);
     write(cells, used, changes, true)
 }

@@ -9,7 +9,7 @@ ghost use Rattle.grid.specs.Change.{Applying, Changing, Done, lists_of, refuse_c
 use batches::batch::{commit, confirm, count_after};
 use batches::lists::{Changes, Outputs};
 use corner::changes::corner_changes;
-use limits::due::Due;
+use limits::dues::Due;
 use limits::floor::Floor;
 use limits::judge::{bad_size, batch_due};
 use limits::refusal::Refusal;

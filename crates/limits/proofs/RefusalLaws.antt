@@ -1,5 +1,5 @@
 -- A refusal by its number, and an answer by what is seen of it. Assumes nothing.
-use Prim.Native.Nat.{ℕ, suc}
+use Prim.Native.Nat.{suc, ◌%◌}
 use native.Mathlib.Omega.{arith}
 use mathlib.Core.Path.{◌≡◌, refl, sym, ap}
 use denote.Enum.Bare.{tag_one}
@@ -27,6 +27,19 @@ number_one e f h = tag_one the_type tt e f (omega (arith, tag_is e, tag_is f))
 
 pub number_some : (e : Refusal) → number e ≡ 0 → ⊥
 number_some e h = omega (arith, tag_is e)
+
+-- each has a bit in a word of 64
+pub number_fits : (e : Refusal) → number e % 64 ≡ number e
+number_fits CellSize = refl
+number_fits Radius = refl
+number_fits LongBatch = refl
+number_fits Disorder = refl
+number_fits OffMap = refl
+number_fits ManyCells = refl
+number_fits ManyPoints = refl
+number_fits BadQuestion = refl
+number_fits ShortTable = refl
+number_fits BadFile = refl
 
 -- an answer that is nothing but a refusal or none is seen whole by its number
 pub code_one : {A : Type 0} → ((a b : A) → a ≡ b) → (r q : Result A Refusal) → code r ≡ code q → r ≡ q

@@ -1,68 +1,27 @@
-// The refusals that are due, and the one order in which they are answered.
-ghost use Rattle.std.specs.Prelude.{◌≡◌, cond, ◌^◌};
+// The refusals that are due, by their numbers, as a word: bit n for the number n. By their names: `Due`.
+ghost use Rattle.std.specs.Prelude.{◌≡◌, cond, ◌%◌, ◌^◌};
 ghost use Rattle.std.specs.Int.Bits.{bit_or};
 ghost use Rattle.model.specs.Refusal.{order};
-ghost use Rattle.limits.specs.Refusals.{code, number};
 ghost use Rattle.limits.specs.Words.{first_on};
 
-use crate::refusal::Refusal;
+use crate::dues::Due;
 
-const ORDER: [Refusal; 9] = [
-    Refusal::ShortTable,
-    Refusal::CellSize,
-    Refusal::Radius,
-    Refusal::LongBatch,
-    Refusal::Disorder,
-    Refusal::OffMap,
-    Refusal::ManyCells,
-    Refusal::ManyPoints,
-    Refusal::BadQuestion,
-];
-
-// A set of refusals as a word: bit n for the number n.
-#[derive(Clone, Copy)]
-pub struct Due {
-    pub word: u64,
+// The others, and this number where `is` says so.
+pub fn due(others: u64, number: u8, is: bool) -> u64
+    ensures { result ≡ bit_or others (cond is (2 ^ (number % 64)) 0) }
+{
+    if is {
+        return others | 1 << (number % 64);
+    }
+    others
 }
 
-impl Due {
-    // No refusal is due.
-    pub fn none() -> Due
-        ensures { result.word ≡ 0 }
-    {
-        Due { word: 0 }
-    }
-
-    // The others, and this refusal where `is` says so.
-    pub fn and(self, refusal: Refusal, is: bool) -> Due
-        ensures { result.word ≡ bit_or self.word (cond is (2 ^ number refusal) 0) }
-    {
-        if is {
-            return Due {
-                word: self.word | 1 << refusal.number(),
-            };
-        }
-        self
-    }
-
-    fn first_of(self) -> Result<(), Refusal>
-        ensures { code result ≡ first_on order self.word }
-    {
-        for refusal in ORDER {
-            if (self.word >> refusal.number()) % 2 == 1 {
-                return Err(refusal);
-            }
-        }
-        Ok(())
-    }
-
-    // The first in the order is the answer. A call that is not refused does not come to the loop.
-    pub fn first(self) -> Result<(), Refusal>
-        ensures { code result ≡ first_on order self.word }
-    {
-        if self.word == 0 {
-            return Ok(());
-        }
-        self.first_of()
+// The first in the order, or 0 where none is due.
+pub fn first_due(word: u64) -> u8
+    ensures { result ≡ first_on order word }
+{
+    match (Due { word }).first() {
+        Ok(()) => 0,
+        Err(refusal) => refusal.number(),
     }
 }

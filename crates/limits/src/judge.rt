@@ -6,7 +6,7 @@ ghost use Rattle.model.specs.Refusal.{bad_size, off_map, outside, unsorted};
 ghost use Rattle.limits.specs.Batches.{disorder, entries};
 ghost use Rattle.limits.specs.Words.{looked, word_on};
 
-use crate::due::Due;
+use crate::dues::Due;
 use crate::refusal::Refusal;
 use sizes::{BATCH, LEAST_COORDINATE, MOST_COORDINATE};
 

@@ -4,6 +4,7 @@
 
 pub mod cell;
 pub mod due;
+pub mod dues;
 pub mod floor;
 pub mod judge;
 pub mod lent;

@@ -8,7 +8,7 @@ ghost use Rattle.question.specs.Walk.{found};
 use crate::judge::bad_question;
 use crate::search::{Found, Question, search};
 use limits::cell::Cell;
-use limits::due::Due;
+use limits::dues::Due;
 use limits::floor::Floor;
 use limits::judge::bad_size;
 use limits::refusal::Refusal;

@@ -7,7 +7,7 @@ use answers::judge::refuse;
 use answers::pairs::all_pairs;
 use held::map::Map;
 use held::tables::View;
-use limits::due::Due;
+use limits::dues::Due;
 use limits::refusal::Refusal;
 use print::counts::put_counts;
 use print::pairs::put_pairs;

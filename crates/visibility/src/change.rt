@@ -18,7 +18,7 @@ use batches::batch::{commit, count_after};
 use batches::lists::{Changes, Outputs};
 use held::map::Map;
 use held::tables::Tables;
-use limits::due::Due;
+use limits::dues::Due;
 use limits::judge::{bad_size, batch_due};
 use limits::lent::is_short;
 use limits::radius::{bad_radius, reach_of, shift_of};

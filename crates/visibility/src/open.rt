@@ -8,7 +8,7 @@ ghost use Rattle.visibility.specs.Open.{Opening};
 
 use held::map::Map;
 use held::tables::Tables;
-use limits::due::Due;
+use limits::dues::Due;
 use limits::judge::bad_size;
 use limits::radius::bad_radius;
 use limits::refusal::Refusal;

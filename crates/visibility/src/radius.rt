@@ -12,7 +12,7 @@ use crate::plan::mark;
 use batches::lists::Changes;
 use corner::cells::corner_cells;
 use held::map::Map;
-use limits::due::Due;
+use limits::dues::Due;
 use limits::judge::bad_size;
 use limits::radius::{bad_radius, reach_of, shift_of};
 use limits::refusal::Refusal;

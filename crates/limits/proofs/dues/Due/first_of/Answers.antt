@@ -4,7 +4,7 @@ use mathlib.Core.Bool.{true, false}
 use borrow.Author.Tests.{eq-eqb, ne_eqb}
 use Rattle.limits.specs.declared.refusal.Refusal.TheVariants.{CellSize}
 use Rattle.limits.proofs.WordLaws.{first_end, first_next}
-use Rattle.limits.proofs.due.Due.first_of.Goals as goal
+use Rattle.limits.proofs.dues.Due.first_of.Goals as goal
 
 pub loop-refusal-init : goal.loop-refusal-init
 loop-refusal-init c = refl
