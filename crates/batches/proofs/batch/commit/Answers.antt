@@ -1,8 +1,14 @@
+use native.Mathlib.Omega.{arith}
 use mathlib.Core.Path.{◌∙◌}
-use Rattle.batches.proofs.WriteLaws.{commit_is}
+use Rattle.batches.proofs.WriteLaws.{commit_is, listed_lengths}
 use Rattle.batches.proofs.batch.commit.Goals as goal
 
 -- `batch::commit`: what is to be free is taken out, and then what is to be occupied put in. Assumes nothing.
+pub returns-then-changes : goal.returns-then-changes
+returns-then-changes c =
+    let a = c.args.changes in
+    λ b p q o T h. absurd (omega (arith, c.if-changes.true, listed_lengths a.cells.now a.full.now b p q))
+
 pub returns : goal.returns
 returns c =
     let o = c.write-used in
