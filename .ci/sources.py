@@ -50,14 +50,13 @@ class Function:
     """A public function: its path, what it takes and answers, and its clauses as (word, is starred, name, tokens)."""
 
     def __init__(self, path, source, text, at):
-        self.path, self.source, self.clauses, self.is_read, begins = path, source, [], True, at
+        self.path, self.source, self.clauses, self.is_read = path, source, [], True
         while at < len(text) and text[at] != "(":
             # the parameters of a generic function
             at = angle_end(text, at) if text[at] == "<" else at + 1
         end = end_of(text, at)
-        self.generics, self.takes = text[begins:at], text[at + 1 : end - 1]
+        self.takes = text[at + 1 : end - 1]
         head = re.compile(r"(.*?)(?=\{|;\s*\n|\b(?:ghost|requires|ensures)\b)", re.S).match(text, end)
-        self.generics += head[1].partition("where")[2]
         answer = re.match(r"\s*->\s*(.*?)\s*(?:\bwhere\b.*)?$", head[1], re.S)
         self.result = answer[1] if answer else None
         at = head.end()

@@ -1,14 +1,21 @@
 // The entries that a test keeps, at the front of a lent output.
-ghost use Rattle.std.specs.Prelude.{◌≡◌, ◌≤◌, ◌<◌, ℕ, Bool, length};
+ghost use Rattle.std.specs.Prelude.{◌≡◌, ◌≤◌, ◌<◌, ℕ, Bool, get_or, length};
 ghost use Rattle.answers.specs.Asking.{Front};
 ghost use Rattle.answers.specs.Walks.{picked};
 
-// Writes the entries at whose places the test is true, in turn, and returns how many there are. Nothing is written where there is no
-// room for all. Of its caller it asks only that the test may be called at each place.
-pub fn keep<F: Fn(usize) -> bool>(entries: &[u64], out: &mut [u64], kept: F) -> usize
-    requires { (i : ℕ) → i < length entries.now → F.pre kept i }
+// A test of the entries of a list, each with its place.
+pub trait Test: Copy {
+    // What it may say of the entry x at the place i.
+    ghost says: { Self → ℕ → ℕ → Bool → Type 0 };
+
+    fn keeps(&self, i: usize, x: u64) -> bool
+        ensures { says self.now i x result };
+}
+
+// Writes the entries that the test keeps, in turn, and returns how many there are. Nothing is written where there is no room for all.
+pub fn keep<T: Test>(entries: &[u64], out: &mut [u64], test: T) -> usize
     ensures roomy { length entries.now ≤ length out.old
-        → (p : ℕ → Bool) → ((i : ℕ) (r : Bool) → i < length entries.now → F.post kept i r → r ≡ p i)
+        → (p : ℕ → Bool) → ((i : ℕ) (r : Bool) → i < length entries.now → T.says test i (get_or entries.now i 0) r → r ≡ p i)
         → Front (picked p entries.now) result out.old out.new }
     ensures short { length out.old < length entries.now → (result ≡ 0) × (out.new ≡ out.old) }
 {
@@ -17,7 +24,7 @@ pub fn keep<F: Fn(usize) -> bool>(entries: &[u64], out: &mut [u64], kept: F) -> 
     }
     let mut n = 0;
     for (i, x) in entries.iter().enumerate() {
-        if kept(i) {
+        if test.keeps(i, *x) {
             out[n] = *x;
             n += 1;
         }

@@ -1,11 +1,11 @@
 // The points of a map. Tables and columns come one by one, as C lends them: each call takes only those that it needs.
-ghost use Rattle.std.specs.Prelude.{◌≤◌, length};
+ghost use Rattle.std.specs.Prelude.{◌≡◌, ◌<◌, ◌≤◌, eqb, get_or, length};
 ghost use Rattle.answers.specs.PairLists.{AllPoints, FreePoints};
 ghost use Rattle.answers.specs.Told.{counted};
 ghost use Rattle.answers.specs.Walks.{FreeListed};
 
 use crate::judge::refuse;
-use crate::keep::keep;
+use crate::keep::{Test, keep};
 use held::map::Map;
 use limits::dues::Due;
 use limits::lent::is_short;
@@ -42,12 +42,26 @@ pub fn all_points(
     Ok(n)
 }
 
+// Whether nothing blocks a point.
+#[derive(Clone, Copy)]
+struct Unblocked<'a> {
+    blockers: &'a [u64],
+}
+
+impl Test for Unblocked<'_> {
+    ghost says = { λ s i x r. i < length s.blockers.now → r ≡ eqb (get_or s.blockers.now i 0) 0 };
+
+    fn keeps(&self, i: usize, _x: u64) -> bool {
+        i < self.blockers.len() && self.blockers[i] == 0
+    }
+}
+
 // Writes the points that nothing blocks to the front of `out`, and returns how many there are.
 fn write_free(points: &[u64], blockers: &[u64], out: &mut [u64]) -> usize
     requires { (length points.now ≤ length blockers.now) × (length points.now ≤ length out.old) }
     ensures { FreeListed points.now blockers.now result out.old out.new }
 {
-    keep(points, out, |i| blockers[i] == 0)
+    keep(points, out, Unblocked { blockers })
 }
 
 // The points that nothing blocks, ascending (`iter_points`).

@@ -1,5 +1,5 @@
 // The points in sight of a cell (`calculate_visibility`).
-ghost use Rattle.std.specs.Prelude.{◌≡◌, ◌&&◌, ℕ, ◌≤◌, length};
+ghost use Rattle.std.specs.Prelude.{◌≡◌, ◌&&◌, ℕ, ◌<◌, ◌≤◌, eqb, get_or, length};
 ghost use Rattle.std.proofs.Math.Option.{Option};
 ghost use Rattle.answers.specs.Asking.{Front};
 ghost use Rattle.answers.specs.Told.{counted};
@@ -18,7 +18,7 @@ ghost use Rattle.views.specs.Seen.{InSight};
 ghost use Rattle.views.specs.Kept.{marked, seen};
 
 use answers::judge::{off_edge, refuse};
-use answers::keep::keep;
+use answers::keep::{Test, keep};
 use held::map::Map;
 use held::tables::View;
 use limits::cell::Cell;
@@ -28,12 +28,26 @@ use looks::tests::Ground;
 use sizes::POINTS;
 use table::place::{place, stands_at};
 
+// Whether the number of a pair says that nothing blocks it.
+#[derive(Clone, Copy)]
+struct OpenPair<'a> {
+    row: &'a [u64],
+}
+
+impl Test for OpenPair<'_> {
+    ghost says = { λ s i x r. i < length s.row.now → r ≡ eqb (get_or s.row.now i 0) 1 };
+
+    fn keeps(&self, i: usize, _x: u64) -> bool {
+        i < self.row.len() && self.row[i] == 1
+    }
+}
+
 // From a point, whose pairs are `row`: those of its pairs that nothing blocks, without looking at what blocks the points.
 fn write_paired(points: &[u64], row: &[u64], out: &mut [u64]) -> usize
     requires { (length points.now ≤ length row.now) × (length points.now ≤ length out.old) }
     ensures { Front (marked points.now row.now) result out.old out.new }
 {
-    keep(points, out, |i| row[i] == 1)
+    keep(points, out, OpenPair { row })
 }
 
 // Whether a point of this status and blocker is seen from the cell k, which is none.
@@ -43,6 +57,28 @@ fn is_seen(ground: Ground, k: u64, p: u64, status: u8, blocker: u64) -> bool
         → result ≡ (free o && (sees k p b && free ((tests ground.entry.size ground.entry.radius).sweep ground.entry.cells.now k p).cell)) }
 {
     blocker == 0 && sees(k, p, status) && ground.sweep_between(k, p) == 0
+}
+
+// Whether a point is seen from the cell k.
+#[derive(Clone, Copy)]
+struct Sight<'a> {
+    ground: Ground<'a>,
+    statuses: &'a [u8],
+    blockers: &'a [u64],
+    k: u64,
+}
+
+impl Test for Sight<'_> {
+    ghost says = { λ s i x r. i < length s.statuses.now → i < length s.blockers.now
+        → (b : Bits) (o : Option ℕ) → AscL 0 s.ground.cells.now → All (Inside max_coordinate) s.ground.cells.now
+        → get_or s.statuses.now i 0 ≡ number b → get_or s.blockers.now i 0 ≡ block_code o → Named o
+        → r ≡ (free o && (sees s.k x b && free ((tests s.ground.size s.ground.radius).sweep s.ground.cells.now s.k x).cell)) };
+
+    fn keeps(&self, i: usize, x: u64) -> bool {
+        i < self.statuses.len()
+            && i < self.blockers.len()
+            && is_seen(self.ground, self.k, x, self.statuses[i], self.blockers[i])
+    }
 }
 
 // From any other cell.
@@ -59,11 +95,13 @@ fn write_seen(
         → points.now ≡ keys ps → statuses.now ≡ statuses_of ps → blockers.now ≡ codes (blocks_of ps) → AllNamed (blocks_of ps)
         → Front (seen ground.entry.size ground.entry.radius ground.entry.cells.now k ps) result out.old out.new }
 {
-    keep(
-        points,
-        out,
-        |i| is_seen(ground, k, points[i], statuses[i], blockers[i]),
-    )
+    let test = Sight {
+        ground,
+        statuses,
+        blockers,
+        k,
+    };
+    keep(points, out, test)
 }
 
 // What is in sight of a cell: a point's open pairs, or what is seen from any other cell.
