@@ -10,6 +10,20 @@ use std::io::Write;
 // The longest batch has 300 entries.
 const NUMBERS: usize = 900;
 
+// Puts an entry's three numbers after those that the batch has so far, where there is room. Returns how many it has then.
+#[tactic(auto, unfolding(crate::specs::Entered::entered, crate::specs::Entered::used_then))]
+pub fn enter(batch: &mut [i64], used: usize, x: i64, y: i64, full: i64) -> usize
+    ensures { (result ≡ used_then batch.old used) × (batch.new ≡ entered batch.old used x y full) }
+{
+    if batch.len() < 3 || batch.len() - 3 < used {
+        return used;
+    }
+    batch[used] = x;
+    batch[used + 1] = y;
+    batch[used + 2] = full;
+    used + 3
+}
+
 // A batch in the making: three numbers an entry, and how many there are so far.
 #[derive(Clone, Copy)]
 pub struct Batch {
@@ -27,19 +41,11 @@ impl Batch {
         }
     }
 
-    // Puts an entry's three numbers after those that the batch has so far, where there is room.
-    #[tactic(auto, unfolding(crate::specs::Entered::entered, crate::specs::Entered::used_then))]
+    // One more entry, where there is room.
     pub fn enter(&mut self, x: i64, y: i64, full: i64)
         ensures { (self.new.used ≡ used_then self.old.numbers self.old.used) × (self.new.numbers ≡ entered self.old.numbers self.old.used x y full) }
     {
-        let used = self.used;
-        if NUMBERS - 3 < used {
-            return;
-        }
-        self.numbers[used] = x;
-        self.numbers[used + 1] = y;
-        self.numbers[used + 2] = full;
-        self.used = used + 3;
+        self.used = enter(&mut self.numbers, self.used, x, y, full);
     }
 
     // The numbers so far.
@@ -62,7 +68,7 @@ pub fn write_cell<W: Write>(
     write_number(output, cell.y.cast_unsigned(), end)
 }
 
-// Writes the first `count` changes, each cell and its number on a line of their own.
+// Writes the first `count` changes, each cell and its number on a line of their own; nothing where a list has fewer.
 pub fn write_changes<W: Write>(
     output: &mut W,
     mark: &[u8],
@@ -70,6 +76,9 @@ pub fn write_changes<W: Write>(
     numbers: &[u8],
     count: usize,
 ) -> io::Result<()> {
+    if keys.len().min(numbers.len()) < count {
+        return Ok(());
+    }
     for (key, number) in keys.iter().zip(numbers).take(count) {
         output.write_all(mark)?;
         write_cell(output, *key, b" ", b" ")?;
