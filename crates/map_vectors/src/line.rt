@@ -1,5 +1,5 @@
 // A line: a letter and as many operands of sixteen digits as the letter has.
-ghost use Rattle.std.specs.Prelude.{◌≤◌};
+ghost use Rattle.std.specs.Prelude.{◌≤◌, IfSome, length};
 
 use std::io::Read;
 
@@ -20,7 +20,9 @@ fn operands(letter: u8) -> usize
 }
 
 // Reads the next line, where the input has that much.
-pub(crate) fn next_line<'a, R: Read>(input: &mut R, room: &'a mut [u8; LINE]) -> Option<&'a [u8]> {
+pub(crate) fn next_line<'a, R: Read>(input: &mut R, room: &'a mut [u8; LINE]) -> Option<&'a [u8]>
+    ensures { IfSome result (λ l. length l.now ≤ 87) }
+{
     input.read_exact(&mut room[..1]).ok()?;
     let end = 2 + 17 * operands(room[0]);
     input.read_exact(&mut room[1..end]).ok()?;
