@@ -22,7 +22,7 @@ use Rattle.mapfile.specs.Moves.{begun}
 use Rattle.mapfile.specs.declared.state.Reader.{Reader}
 use Rattle.mapfile.specs.declared.state.Reading.{Reading}
 use Rattle.mapfile.proofs.OwnLaws.{not_short}
-use Rattle.window.specs.Refilled.{Refilled, Within, bytes_of, over}
+use Rattle.window.specs.Refilled.{Refilled, Within, bytes_of}
 use Rattle.model.specs.Limits.{need_window}
 use Rattle.window.specs.declared.input.Window.{Window}
 use Rattle.intake.specs.Taken.{Came, EndsWith, Taken, lent, too_short}
@@ -55,10 +55,10 @@ pub record Going (n : ℕ) (t₀ : Tables) (r : Reader) (t : Tables) (w : List �
 
 module _ {n : ℕ} {t₀ : Tables} {r : Reader} {t : Tables} {left : ℕ} where
   -- more bytes come after those of the window, or it stays as it is
-  pub go_fill : (w w' : Window) (b b' : List ℕ) → Within w b → Refilled w w' b b' → Going n t₀ r t (bytes_of w b) (over w.next) left → Going n t₀ r t (bytes_of w' b') (over w'.next) left
-  go_fill w w' b b' h f g = go (over w.next) refl
+  pub go_fill : (w w' : Window) (b b' : List ℕ) → Within w b → Refilled w w' b b' → Going n t₀ r t (bytes_of w b) w.ended left → Going n t₀ r t (bytes_of w' b') w'.ended left
+  go_fill w w' b b' h f g = go w.ended refl
     where
-      more : over w.next ≡ false → Going n t₀ r t (bytes_of w' b') (over w'.next) left
+      more : w.ended ≡ false → Going n t₀ r t (bytes_of w' b') w'.ended left
       more e =
           let a = (f.kept h).0 in
           let p = (f.kept h).1 in
@@ -75,7 +75,7 @@ module _ {n : ℕ} {t₀ : Tables} {r : Reader} {t : Tables} {left : ℕ} where
                 (g.whole (a ++ rest) (λ z. absurd (true≢false (sym z ∙ e))) c t'' (fill a (subst (λ (l : List ℕ). Feeds r t l rest c t'') p x)));
           }
 
-      go : (z : Bool) → over w.next ≡ z → Going n t₀ r t (bytes_of w' b') (over w'.next) left
+      go : (z : Bool) → w.ended ≡ z → Going n t₀ r t (bytes_of w' b') w'.ended left
       go true e = let s = f.stays (inl e) h in rw (s.0, s.1) g
       go false e = more e
 
@@ -103,14 +103,14 @@ module _ {n : ℕ} {t₀ : Tables} {r : Reader} {t : Tables} {left : ℕ} where
 
 -- ---- a turn of the loop: the window was refilled, and a field was read from its bytes
 module _ (b₀ : List ℕ) {b b' : List ℕ} {t₀ t : Tables} {r : Reader} {w w' : Window} {left : ℕ} (need : short (lent b₀ t₀) ≡ false) (small : length b₀ < 2 ^ 63)
-    (long : length b ≡ length b₀) (h : Within w b) (g : Going (length b₀) t₀ r t (bytes_of w b) (over w.next) left) (f : Refilled w w' b b') where
-  going : Going (length b₀) t₀ r t (bytes_of w' b') (over w'.next) left
+    (long : length b ≡ length b₀) (h : Within w b) (g : Going (length b₀) t₀ r t (bytes_of w b) w.ended left) (f : Refilled w w' b b') where
+  going : Going (length b₀) t₀ r t (bytes_of w' b') w'.ended left
   going = go_fill w w' b b' h f g
 
   fits : length (bytes_of w' b') ≤ length b₀
   fits = let i = f.inside in let e = within_long w' b' i in let l = f.long in omega arith
 
-  wide_window : (over w'.next ≡ true) ⊎ (need_window ≤ length (bytes_of w' b'))
+  wide_window : (w'.ended ≡ true) ⊎ (need_window ≤ length (bytes_of w' b'))
   wide_window =
       let e = within_long w' b' f.inside in
       let k = (tables_long b₀ t₀ need).0 in
@@ -118,7 +118,7 @@ module _ (b₀ : List ℕ) {b b' : List ℕ} {t₀ t : Tables} {r : Reader} {w w
       ⊎_elim (λ z. inl z) (λ (m : need_window ≤ w'.end - w'.from). let j : need_window ≤ length (bytes_of w' b') = omega arith in inr j) (f.enough l h)
 
   pub turn_more : {t' : Tables} (r' : Reader) (used : ℕ) → FieldRead r (bytes_of w' b') t t' (Ok (Reading.More r' used)) → used ≤ left
-      → (w'.from + used ≤ w'.end) × Going (length b₀) t₀ r' t' (take (w'.end - (w'.from + used)) (drop (w'.from + used) b')) (over w'.next) (left - used)
+      → (w'.from + used ≤ w'.end) × Going (length b₀) t₀ r' t' (take (w'.end - (w'.from + used)) (drop (w'.from + used) b')) w'.ended (left - used)
   turn_more {t'} r' used x l =
       let u = (x.within r' used refl).1 in
       let k = within_long w' b' f.inside in

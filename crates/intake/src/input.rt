@@ -11,7 +11,7 @@ use mapfile::field::one_field;
 use mapfile::state::{FileRefusal, Reading, begin};
 use sizes::WINDOW;
 use std::io::Read;
-use window::input::{Next, Window, refill};
+use window::input::{Window, refill};
 
 // Why there is no map: the file is refused, or it could not be read to its end.
 #[derive(Clone, Copy, Debug, PartialEq, Eq)]
@@ -44,12 +44,13 @@ fn read_fields<R: Read>(
     let mut window = Window {
         from: 0,
         end: 0,
-        next: Next::More,
+        ended: false,
+        failed: false,
     };
     let mut room = 9223372036854775807 - buffer.len();
     loop {
         window = refill(input, buffer, window);
-        if window.next == Next::Failed {
+        if window.failed {
             return Err(InputError::Unread);
         }
         match one_field(reader, &buffer[window.from..window.end], tables)? {
