@@ -43,11 +43,15 @@ impl Printer<'_> {
         self.at = end;
     }
 
-    // The digits from the last to the first.
+    // The digits from the last to the first. One digit, which most numbers of a listing have, is put without a division.
     pub fn number(&mut self, n: u64)
         requires { self.old.at + length (decimal n) ≤ length self.old.out.now }
         ensures { Wrote (decimal n) 20 self.old self.new }
     {
+        if n < 10 {
+            self.byte(48 + n as u8);
+            return;
+        }
         let end = self.at + places(n);
         let mut rest = n;
         for i in (self.at..end).rev() {

@@ -1,7 +1,8 @@
 -- The changes of a batch, one after another, as the loop makes them of a blocker. Assumes nothing.
-use Rattle.std.proofs.Common.{◌≡◌, ℕ, Bool, true, false, List, [], ◌∷◌, ◌++◌, map, refl, Bor}
+use Rattle.std.proofs.Common.{◌≡◌, ℕ, zero, suc, Bool, true, false, List, [], ◌∷◌, ◌++◌, map, length, take, min, ap, refl, arith, Bor}
 use Rattle.std.proofs.lemmas.Fn.{FoldsTo-push}
 use Rattle.std.proofs.lemmas.List.{map-append}
+use Rattle.std.specs.List.{zip}
 use Rattle.std.specs.Map.Iter.{deref_pair}
 use Rattle.sight.specs.Run.{Ran, Turns}
 
@@ -24,3 +25,12 @@ module _ (meets : ℕ → ℕ → Bool → Type 0) (again : ℕ → Type 0) (xs 
 
   pub ran_passed : (f.now ≡ 0 → ⊥) → (x : Bool) → meets m c.now x → x ≡ false → Next m
   ran_passed n x p e = next m ((λ y. absurd (n y)), λ y. (x, p, rw e refl))
+
+-- two lists side by side have no more than the shorter one
+pub zip_cut : {A B : Type 0} (n : ℕ) (xs : List A) (ys : List B) → n ≡ min (length xs) (length ys) → zip (take n xs) (take n ys) ≡ zip xs ys
+zip_cut zero [] ys h = refl
+zip_cut zero (x ∷ xs) [] h = refl
+zip_cut zero (x ∷ xs) (y ∷ ys) h = absurd (omega (arith, h))
+zip_cut (suc n) [] ys h = absurd (omega (arith, h))
+zip_cut (suc n) (x ∷ xs) [] h = absurd (omega (arith, h))
+zip_cut (suc n) (x ∷ xs) (y ∷ ys) h = ap (λ l. (x, y) ∷ l) (zip_cut n xs ys (omega (arith, h)))

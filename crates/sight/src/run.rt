@@ -17,7 +17,9 @@ pub(crate) fn run<M: Fn(u64, u64) -> bool, A: Fn() -> u64>(
     ensures { Ran (M.post meets) (A.post again) (zip changes.entry.cells.now changes.entry.full.now) start result }
 {
     let mut block = start;
-    for (c, full) in changes.cells.iter().zip(changes.full) {
+    // Cut to one length, so that the loop has one end to look for.
+    let n = changes.cells.len().min(changes.full.len());
+    for (c, full) in changes.cells[..n].iter().zip(&changes.full[..n]) {
         if *full == 0 {
             if block == *c {
                 block = again();

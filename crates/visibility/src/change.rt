@@ -127,7 +127,9 @@ fn commit_cells(cells: &mut [u64], used: usize, changes: Changes) -> usize
     commit(&mut cells[..CELLS], used, changes).min(CELLS)
 }
 
-// Commits a batch: the cells, the layer over them, which has these points then, and the outputs.
+// Commits a batch: the cells, the layer over them, which has these points then, and the outputs. Inlined, so that a caller which does not
+// look at its outputs, as the reading of a map file, does not pay for clearing them.
+#[inline(always)]
 fn finish<'a>(
     map: Map,
     tables: &mut Tables,

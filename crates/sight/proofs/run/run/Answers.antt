@@ -1,7 +1,7 @@
-use Rattle.std.proofs.Common.{sym}
+use Rattle.std.proofs.Common.{sym, take}
 use Rattle.std.proofs.lemmas.Iterator.{YieldsList-from_slice, YieldsList-from_zip}
 use Rattle.std.proofs.lemmas.Iterator.Consumers.{YieldsList-end}
-use Rattle.sight.proofs.RunLaws.{ran_freed, ran_kept, ran_met, ran_passed}
+use Rattle.sight.proofs.RunLaws.{ran_freed, ran_kept, ran_met, ran_passed, zip_cut}
 use Rattle.sight.proofs.run.run.Goals as goal
 
 pub loop-c-preserved-then-block-c : goal.loop-c-preserved-then-block-c
@@ -19,5 +19,6 @@ loop-c-preserved g c = ran_passed _ _ c.loop-c.yielded c.args.start c.loop-c.blo
 pub returns : goal.returns
 returns g c =
     let a = c.args.changes in
-    let all = YieldsList-end (YieldsList-from_zip (YieldsList-from_slice a.cells.now (cc)) (YieldsList-from_slice a.full.now (cc))) c.loop-c.yielded c.loop-c.c-iterator c.loop-c.yielded_by c.next.result c.next.new.self c.in-None.is c.next.ensures.steps in
-    rw (sym all.0) c.loop-c.invariant
+    let n = c.min-n.result in
+    let all = YieldsList-end (YieldsList-from_zip (YieldsList-from_slice (take n a.cells.now) (cc)) (YieldsList-from_slice (take n a.full.now) (cc))) c.loop-c.yielded c.loop-c.c-iterator c.loop-c.yielded_by c.next.result c.next.new.self c.in-None.is c.next.ensures.steps in
+    rw (sym (zip_cut n a.cells.now a.full.now c.min-n.ensures), sym all.0) c.loop-c.invariant
