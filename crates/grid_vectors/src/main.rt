@@ -71,7 +71,7 @@ impl Floors {
             cells: 0,
         };
         self.cells = [0; CELLS];
-        self.batch = Batch::new();
+        self.batch.used = 0;
         reply.answer(&[0; 4])
     }
 
@@ -95,9 +95,9 @@ impl Floors {
             altered: &mut [0; CORNERS],
         };
         let floor = self.floor;
-        let batch = self.batch;
-        let answer = change_cells(floor, &mut self.cells, batch.entries(), &mut outputs);
-        self.batch = Batch::new();
+        let entries = self.batch.entries();
+        let answer = change_cells(floor, &mut self.cells, entries, &mut outputs);
+        self.batch.used = 0;
         answer_batch(reply, answer)?;
         let Ok(r) = answer else {
             return Ok(());

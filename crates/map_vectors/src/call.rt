@@ -67,7 +67,7 @@ impl State {
         let opened = open(size, radius, &mut self.store.lend());
         self.told = opened.unwrap_or(self.map);
         self.map = opened.unwrap_or(Map::none());
-        self.batch = Batch::new();
+        self.batch.used = 0;
         answer_map(reply, opened)
     }
 
@@ -98,10 +98,10 @@ impl State {
             altered: &mut altered,
         };
         let map = self.map;
-        let batch = self.batch;
-        let answer = change_cells(map, &mut self.store.lend(), batch.entries(), &mut outputs);
+        let entries = self.batch.entries();
+        let answer = change_cells(map, &mut self.store.lend(), entries, &mut outputs);
         self.keep(answer.ok().map(|change| change.map));
-        self.batch = Batch::new();
+        self.batch.used = 0;
         let r = Changed::from(answer);
         answer_batch(reply, r)?;
         write_changes(reply.output, b"= ", &confirmed, &full, r.confirmed)?;
