@@ -49,10 +49,10 @@ struct Unblocked<'a> {
 }
 
 impl Test for Unblocked<'_> {
-    ghost says = { λ s i x r. i < length s.blockers.now → r ≡ eqb (get_or s.blockers.now i 0) 0 };
+    ghost says = { λ s i n x r. i < n → n ≤ length s.blockers.now → r ≡ eqb (get_or s.blockers.now i 0) 0 };
 
-    fn keeps(&self, i: usize, _x: u64) -> bool {
-        i < self.blockers.len() && self.blockers[i] == 0
+    fn keeps(&self, i: usize, n: usize, _x: u64) -> bool {
+        i < n && n <= self.blockers.len() && self.blockers[i] == 0
     }
 }
 

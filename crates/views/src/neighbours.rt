@@ -28,10 +28,10 @@ struct Reach<'a> {
 }
 
 impl Test for Reach<'_> {
-    ghost says = { λ s i x r. AscL 0 s.ground.cells.now → All (Inside max_coordinate) s.ground.cells.now
+    ghost says = { λ s i n x r. AscL 0 s.ground.cells.now → All (Inside max_coordinate) s.ground.cells.now
         → r ≡ free ((tests s.ground.size s.ground.radius).sweep s.ground.cells.now s.k x).cell };
 
-    fn keeps(&self, _i: usize, x: u64) -> bool {
+    fn keeps(&self, _i: usize, _n: usize, x: u64) -> bool {
         self.ground.sweep_between(self.k, x) == 0
     }
 }

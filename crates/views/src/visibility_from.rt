@@ -35,10 +35,10 @@ struct OpenPair<'a> {
 }
 
 impl Test for OpenPair<'_> {
-    ghost says = { λ s i x r. i < length s.row.now → r ≡ eqb (get_or s.row.now i 0) 1 };
+    ghost says = { λ s i n x r. i < n → n ≤ length s.row.now → r ≡ eqb (get_or s.row.now i 0) 1 };
 
-    fn keeps(&self, i: usize, _x: u64) -> bool {
-        i < self.row.len() && self.row[i] == 1
+    fn keeps(&self, i: usize, n: usize, _x: u64) -> bool {
+        i < n && n <= self.row.len() && self.row[i] == 1
     }
 }
 
@@ -69,14 +69,15 @@ struct Sight<'a> {
 }
 
 impl Test for Sight<'_> {
-    ghost says = { λ s i x r. i < length s.statuses.now → i < length s.blockers.now
+    ghost says = { λ s i n x r. i < n → n ≤ length s.statuses.now → n ≤ length s.blockers.now
         → (b : Bits) (o : Option ℕ) → AscL 0 s.ground.cells.now → All (Inside max_coordinate) s.ground.cells.now
         → get_or s.statuses.now i 0 ≡ number b → get_or s.blockers.now i 0 ≡ block_code o → Named o
         → r ≡ (free o && (sees s.k x b && free ((tests s.ground.size s.ground.radius).sweep s.ground.cells.now s.k x).cell)) };
 
-    fn keeps(&self, i: usize, x: u64) -> bool {
-        i < self.statuses.len()
-            && i < self.blockers.len()
+    fn keeps(&self, i: usize, n: usize, x: u64) -> bool {
+        i < n
+            && n <= self.statuses.len()
+            && n <= self.blockers.len()
             && is_seen(self.ground, self.k, x, self.statuses[i], self.blockers[i])
     }
 }
