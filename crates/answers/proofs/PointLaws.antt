@@ -59,6 +59,11 @@ pub block_free : (o : Option ℕ) → Named o → free o ≡ eqb (block_code o) 
 block_free none n = refl
 block_free (some k) n = sym (ne_eqb k 0 (λ e. omega (arith, n, e)))
 
+-- .. and where it is another number there is one
+pub some_blocks : (o : Option ℕ) → (block_code o ≡ 0 → ⊥) → free o ≡ false
+some_blocks none f = absurd (f refl)
+some_blocks (some k) f = refl
+
 abbrev pub unblocked : ℕ × Point → Bool
 unblocked p = free p.1.block
 
@@ -72,8 +77,8 @@ module _ (blockers : List ℕ) (ps : Points) (i : ℕ) (e : blockers ≡ codes (
   pub reads_free : AllNamed (blocks_of ps) → get_or blockers i 0 ≡ 0 → unblocked (point_at ps i) ≡ true
   reads_free a z = unblocked_is a ∙ eq-eqb (get_or blockers i 0) 0 z
 
-  pub reads_blocked : AllNamed (blocks_of ps) → (get_or blockers i 0 ≡ 0 → ⊥) → unblocked (point_at ps i) ≡ false
-  reads_blocked a f = unblocked_is a ∙ ne_eqb (get_or blockers i 0) 0 f
+  pub reads_blocked : (get_or blockers i 0 ≡ 0 → ⊥) → unblocked (point_at ps i) ≡ false
+  reads_blocked f = some_blocks (point_at ps i).1.block (λ z. f (read_block ∙ z))
 
 -- ---- the used places of a table
 pub used : (n : ℕ) (t : List ℕ) → n ≤ 64 → 64 ≤ length t → length (take n t) ≡ n

@@ -173,7 +173,7 @@ module _ (l : Layer) (points blockers table : List ℕ) (s : ShownOpen l points 
   is_free i h z = free_at_lem i h ∙ reads_free blockers l.points i s.blocks_are s.all_named z
 
   is_shut : (i : ℕ) → i < length points → (get_or blockers i 0 ≡ 0 → ⊥) → free_at (get (key_at l i) l.points) ≡ false
-  is_shut i h z = free_at_lem i h ∙ reads_blocked blockers l.points i s.blocks_are s.all_named z
+  is_shut i h z = free_at_lem i h ∙ reads_blocked blockers l.points i s.blocks_are z
 
   -- none of a blocked point
   pub row_shut : (i j : ℕ) → i < length points → (get_or blockers i 0 ≡ 0 → ⊥) → sift K (row_from l i j) ≡ []

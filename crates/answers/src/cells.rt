@@ -3,13 +3,13 @@ ghost use Rattle.answers.specs.CellLists.{CornerCells, IsOccupied, OccupiedCells
 ghost use Rattle.answers.specs.Told.{counted, said};
 
 use crate::judge::refuse;
+use crate::list::list;
 use held::map::Map;
 use limits::cell::Cell;
 use limits::dues::Due;
 use limits::lent::is_short;
 use limits::refusal::Refusal;
 use sizes::CELLS;
-use table::copy::copy;
 
 // As C has it: 0 and the answer; or the refusal's number, and no.
 #[repr(C)]
@@ -51,7 +51,7 @@ pub fn occupied_cells(map: Map, cells: &[u64], out: &mut [u64]) -> Result<usize,
     let short = is_short(&[(cells.len(), CELLS), (out.len(), CELLS)]);
     refuse(short, map, Due::none())?;
     let n = map.cells;
-    copy(&cells[..n], out);
+    list(&cells[..n], out);
     Ok(n)
 }
 

@@ -5,5 +5,6 @@ pub mod ask;
 pub mod cells;
 pub mod judge;
 pub mod keep;
+mod list;
 pub mod pairs;
 pub mod points;

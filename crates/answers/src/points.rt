@@ -6,12 +6,12 @@ ghost use Rattle.answers.specs.Walks.{FreeListed};
 
 use crate::judge::refuse;
 use crate::keep::{Test, keep};
+use crate::list::list;
 use held::map::Map;
 use limits::dues::Due;
 use limits::lent::is_short;
 use limits::refusal::Refusal;
 use sizes::POINTS;
-use table::copy::copy;
 
 // All points, ascending, with their statuses and their blockers (0 for none, or a key).
 pub fn all_points(
@@ -36,9 +36,9 @@ pub fn all_points(
     ]);
     refuse(short, map, Due::none())?;
     let n = map.points;
-    copy(&points[..n], out);
-    copy(&statuses[..n], bits);
-    copy(&blockers[..n], blocks);
+    list(&points[..n], out);
+    list(&statuses[..n], bits);
+    list(&blockers[..n], blocks);
     Ok(n)
 }
 

@@ -22,9 +22,9 @@ pub returns-in_err-refuse : goal.returns-in_err-refuse
 returns-in_err-refuse c =
     listing_refused _ (Lent c.args.map c.args.cells.now) _ c.from_residual.result _ c.from_residual.ensures.1 (number (goal.at.returns-in_err-refuse c).After-refuse c.in_err-refuse.ensures) (refl, tt)
 
-pub slice_bounds-copy-end : goal.slice_bounds-copy-end
-slice_bounds-copy-end c =
-    let e = (goal.at.slice_bounds-copy-end c).After-refuse in
+pub slice_bounds-list-end : goal.slice_bounds-list-end
+slice_bounds-list-end c =
+    let e = (goal.at.slice_bounds-list-end c).After-refuse in
     used c.args.map c.args.cells.now (rest e) [] (number e c.in_ok-refuse.ensures)
 
 pub returns : goal.returns
@@ -32,4 +32,4 @@ returns c =
     let a = c.args in
     let e = (goal.at.returns c).After-refuse in
     let none = number e c.in_ok-refuse.ensures in
-    listing_done _ (Lent a.map a.cells.now) _ a.map.cells none (cells_written a.map a.cells.now a.out.now c.copy.new.to (accepted _ a.map [] 0 none refl).0.1.0 c.copy.ensures)
+    listing_done _ (Lent a.map a.cells.now) _ a.map.cells none (cells_written a.map a.cells.now a.out.now c.list.new.out (accepted _ a.map [] 0 none refl).0.1.0 c.list.ensures)

@@ -28,19 +28,19 @@ pub returns-in_err-refuse : goal.returns-in_err-refuse
 returns-in_err-refuse c =
     listing_refused _ _ _ c.from_residual.result _ c.from_residual.ensures.1 (number (goal.at.returns-in_err-refuse c).After-refuse c.in_err-refuse.ensures) (refl, (refl, (refl, tt)))
 
-pub slice_bounds-copy-end : goal.slice_bounds-copy-end
-slice_bounds-copy-end c =
-    let p = passed (goal.at.slice_bounds-copy-end c).In_ok-refuse in
+pub slice_bounds-list-end : goal.slice_bounds-list-end
+slice_bounds-list-end c =
+    let p = passed (goal.at.slice_bounds-list-end c).In_ok-refuse in
     sym (used c.args.map.points c.args.points.now p.2 p.0.0)
 
-pub slice_bounds-copy-end-2 : goal.slice_bounds-copy-end-2
-slice_bounds-copy-end-2 c =
-    let p = passed (goal.at.slice_bounds-copy-end-2 c).In_ok-refuse in
+pub slice_bounds-list-end-2 : goal.slice_bounds-list-end-2
+slice_bounds-list-end-2 c =
+    let p = passed (goal.at.slice_bounds-list-end-2 c).In_ok-refuse in
     sym (used c.args.map.points c.args.statuses.now p.2 p.0.1.0)
 
-pub slice_bounds-copy-end-3 : goal.slice_bounds-copy-end-3
-slice_bounds-copy-end-3 c =
-    let p = passed (goal.at.slice_bounds-copy-end-3 c).In_ok-refuse in
+pub slice_bounds-list-end-3 : goal.slice_bounds-list-end-3
+slice_bounds-list-end-3 c =
+    let p = passed (goal.at.slice_bounds-list-end-3 c).In_ok-refuse in
     sym (used c.args.map.points c.args.blockers.now p.2 p.0.1.1.0)
 
 pub returns : goal.returns
@@ -48,4 +48,4 @@ returns c =
     let a = c.args in
     let r = (passed (goal.at.returns c).In_ok-refuse).0.1.1.1 in
     listing_done _ _ _ a.map.points (number (goal.at.returns c).After-refuse c.in_ok-refuse.ensures)
-    (λ M h. points_written a.map h.0 M h.1 a.points.now a.statuses.now a.blockers.now h.2.0 h.2.1 h.2.2 a.out.now _ a.bits.now _ a.blocks.now _ r.0 r.1.0 r.1.1.0 c.copy.ensures c.copy-2.ensures c.copy-3.ensures)
+    (λ M h. points_written a.map h.0 M h.1 a.points.now a.statuses.now a.blockers.now h.2.0 h.2.1 h.2.2 a.out.now _ a.bits.now _ a.blocks.now _ r.0 r.1.0 r.1.1.0 c.list.ensures c.list-2.ensures c.list-3.ensures)
